@@ -1,0 +1,40 @@
+-- This paper's number and pair for each case of the enum Answer: 0 and the pair, or the number of the refusal and [0, 0].
+use Prim.Native.Nat.{ℕ, zero, suc}
+use mathlib.Core.Bool.{Bool, true, false}
+use Rattle.pairs.specs.declared.answer.Pair.{Pair}
+use Rattle.pairs.specs.declared.answer.Refusal.{Refusal}
+use Rattle.pairs.specs.declared.answer.Refusal.the-variants.{Disordered, ZeroDivisor, OutOfSpan, TooLarge}
+use Rattle.pairs.specs.declared.answer.Answer.{Answer}
+use Rattle.pairs.specs.declared.answer.Answer.the-variants.{Is, Refused}
+use Rattle.pairs.specs.Rounded.{ends}
+
+pub record Figures : Type 0 where
+  pub number : ℕ
+  pub pair : Pair
+
+abbrev pub given : Pair → Figures
+given p = record { number = 0; pair = p }
+
+-- "Returns [0, 0]."
+abbrev pub refused : ℕ → Figures
+refused n = record { number = n; pair = ends 0 0 }
+
+-- The numbers of "One pair operation".
+abbrev pub number-of : Refusal → ℕ
+number-of Disordered = 61
+number-of ZeroDivisor = 62
+number-of OutOfSpan = 63
+number-of TooLarge = 64
+
+abbrev pub figures : Answer → Figures
+figures (Is p) = given p
+figures (Refused why) = refused (number-of why)
+
+-- The number where the test holds, else what follows: "the first number that applies, in the order written, is given."
+abbrev pub refuse : Bool → ℕ → Figures → Figures
+refuse true n f = refused n
+refuse false n f = f
+
+-- What follows, unless a was refused: then that refusal stays.
+abbrev pub after : Figures → Figures → Figures
+after a f = elim (a .number) [ zero ↦ f | suc _ ↦ a ]
