@@ -4,10 +4,8 @@ use Prim.Native.Nat.{ℕ}
 
 pub record Arithmetic : Type 1 where
   pub Carrier : Type 0
-
   -- "A constant is an exact pair": the first number over the second.
   pub constant : ℕ → ℕ → Carrier
-
   pub sum : Carrier → Carrier → Carrier
   pub difference : Carrier → Carrier → Carrier
   pub product : Carrier → Carrier → Carrier
@@ -16,16 +14,12 @@ pub record Arithmetic : Type 1 where
   pub over : Carrier → ℕ → Carrier
   pub root : Carrier → Carrier
   pub fifth-root : Carrier → Carrier
-
   -- The larger low end and the larger high end of the two.
   pub larger : Carrier → Carrier → Carrier
-
   -- [0, b] of [a, b]: what counts in the high end alone.
   pub high-only : Carrier → Carrier
-
   -- Half the number of terms that both ends of a series have: 8, and n at depth n.
   pub pairs-of-terms : ℕ
-
   -- The spans that 63 tests: a high end at most 1 (arc), at most 1/3 (H), below 256 (exp). No test is made at depth n.
   pub at-most-one : Carrier → Carrier
   pub at-most-a-third : Carrier → Carrier

@@ -5,3 +5,4 @@ pub mod Rounded
 pub mod Series
 pub mod Figures
 pub mod Answers
+pub mod Private

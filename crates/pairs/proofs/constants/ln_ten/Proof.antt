@@ -1,0 +1,15 @@
+-- `ln_ten` meets its contract: the definition, computed.
+-- Assumes nothing.
+use mathlib.Core.Path.{_≡_, refl, sym, ap, _∙_}
+use Rattle.pairs.specs.Rounded as rounded
+use Rattle.pairs.specs.Answers as answers
+use Rattle.pairs.specs.Series as series
+use Rattle.pairs.proofs.constants.ln_ten.Statement.{statement}
+use Rattle.pairs.proofs.constants.ln_ten.Tie as tie
+
+returns : tie.Need-returns
+unfolding series.ln-ten series.h-series series.h-of series.total series.arc-term series.power answers.constant answers.sum answers.difference answers.product answers.quotient answers.times answers.over answers.high-only answers.at-most-one answers.at-most-a-third answers.fitting rounded.constant rounded.sum rounded.difference rounded.product rounded.quotient rounded.times rounded.over rounded.high-only rounded.up rounded.down
+returns c = refl
+
+pub ln-ten-spec : {M : Type 1} → statement M
+ln-ten-spec = tie.close (tie.spec returns)

@@ -1,0 +1,15 @@
+-- `pi` meets its contract: the definition, computed.
+-- Assumes nothing.
+use mathlib.Core.Path.{_≡_, refl, sym, ap, _∙_}
+use Rattle.pairs.specs.Rounded as rounded
+use Rattle.pairs.specs.Answers as answers
+use Rattle.pairs.specs.Series as series
+use Rattle.pairs.proofs.constants.pi.Statement.{statement}
+use Rattle.pairs.proofs.constants.pi.Tie as tie
+
+returns : tie.Need-returns
+unfolding series.pi series.arc series.alternating series.arc-term series.power series.plus-terms series.minus-terms answers.constant answers.sum answers.difference answers.product answers.quotient answers.times answers.over answers.high-only answers.at-most-one answers.at-most-a-third answers.fitting rounded.constant rounded.sum rounded.difference rounded.product rounded.quotient rounded.times rounded.over rounded.high-only rounded.up rounded.down
+returns c = refl
+
+pub pi-spec : {M : Type 1} → statement M
+pi-spec = tie.close (tie.spec returns)

@@ -1,0 +1,2 @@
+-- Laws of the fifth root.
+pub mod Powers

@@ -1,0 +1,2 @@
+-- Laws of the rounded product.
+pub mod Parts

@@ -1,0 +1,2 @@
+-- Laws of two-word numbers.
+pub mod Digits

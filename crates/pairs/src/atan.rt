@@ -1,0 +1,90 @@
+// The arc tangent: the angle halved twice, the arc, times 4.
+use super::answer::Answer;
+use super::answer::Pair;
+use super::answer::Refusal;
+use super::arc::arc;
+use super::product::UNIT;
+use super::product::product;
+use super::quotient::quotient;
+use super::root::root;
+use super::sum::sum;
+use super::times::times;
+ghost use mathlib.Core.Path.{_≡_};
+ghost use Prim.Native.Nat.{_≤_};
+ghost use Rattle.pairs.specs.Figures.{figures, given};
+ghost use Rattle.pairs.specs.Answers.{answers, atan-of};
+ghost use Rattle.pairs.specs.Private.{in-order};
+ghost use Rattle.pairs.specs.Series as series;
+
+// 1 + a.
+fn one_more(a: Answer) -> Answer
+    requires { ⌜ in-order a ⌝ }
+    ensures { λ r. ⌜ (figures r ≡ answers .sum (series.one answers) (figures a)) × in-order r ⌝ }
+{
+    match a {
+        Answer::Is(p) => sum(
+            Pair {
+                low: UNIT,
+                high: UNIT,
+            },
+            p,
+        ),
+        Answer::Refused(why) => Answer::Refused(why),
+    }
+}
+
+fn root_of(a: Answer) -> Answer
+    requires { ⌜ in-order a ⌝ }
+    ensures { λ r. ⌜ (figures r ≡ answers .root (figures a)) × in-order r ⌝ }
+{
+    match a {
+        Answer::Is(p) => root(p),
+        Answer::Refused(why) => Answer::Refused(why),
+    }
+}
+
+fn over_answer(t: Pair, a: Answer) -> Answer
+    requires { ⌜ (t .low ≤ t .high) × in-order a ⌝ }
+    ensures { λ r. ⌜ (figures r ≡ answers .quotient (given t) (figures a)) × in-order r ⌝ }
+{
+    match a {
+        Answer::Is(p) => quotient(t, p),
+        Answer::Refused(why) => Answer::Refused(why),
+    }
+}
+
+// t/(1+root(1+t·t)).
+fn half_angle(a: Answer) -> Answer
+    requires { ⌜ in-order a ⌝ }
+    ensures { λ r. ⌜ (figures r ≡ series.half-angle answers (figures a)) × in-order r ⌝ }
+{
+    match a {
+        Answer::Is(t) => over_answer(t, one_more(root_of(one_more(product(t, t))))),
+        Answer::Refused(why) => Answer::Refused(why),
+    }
+}
+
+// 4 times the arc.
+fn four_arcs(a: Answer) -> Answer
+    requires { ⌜ in-order a ⌝ }
+    ensures { λ r. ⌜ figures r ≡ answers .times (series.arc answers (figures a)) 4 ⌝ }
+{
+    match a {
+        Answer::Is(t) => match arc(t) {
+            Answer::Is(p) => times(p, 4),
+            Answer::Refused(why) => Answer::Refused(why),
+        },
+        Answer::Refused(why) => Answer::Refused(why),
+    }
+}
+
+pub fn atan(t: Pair) -> Answer
+    ensures { λ r. ⌜ figures r ≡ atan-of t ⌝ }
+{
+    if t.high < t.low {
+        return Answer::Refused(Refusal::Disordered);
+    }
+    let once = half_angle(Answer::Is(t));
+    let twice = half_angle(once);
+    four_arcs(twice)
+}
