@@ -1,0 +1,60 @@
+-- An accepted enquiry for each method and face: the pool of ISO 24678-7, A.8, so that nothing is said of no enquiry at all.
+-- Its flame height and diameter are bounded by computation, without a search for a root. Assumes nothing.
+use mathlib.Core.Path.{_≡_, refl, ap}
+use mathlib.Core.Bool.{Bool, true, false, _&&_, not}
+use Prim.Native.Nat.{ℕ, _*_, _≤_}
+use native.Mathlib.Nat.{le-trans, mul-le-mul-left, not-le-of-lt}
+use lib.Dec.{T, leb, ltb, leb→le, ltb→lt}
+use lib.Ieee.Fits.{and-l, and-r}
+use Rattle.pairs.specs.Rounded.{rounded}
+use Rattle.pairs.specs.Answers.{answers}
+use Rattle.chain.specs.declared.enquiry.Enquiry.{Enquiry}
+use Rattle.chain.specs.Chain.{diameter, flame-height}
+use Rattle.chain.specs.Flux.{outside, fuel-within, flame-too-low, flux-of, Shown}
+use Rattle.chain.proofs.Bounds.{bounds}
+use Rattle.chain.proofs.Within.{within}
+use Rattle.chain.proofs.Steps.{diameter-kept, flame-height-kept}
+use Rattle.chain.proofs.Opened.{opened}
+use Rattle.chain.proofs.Limits.{Tested}
+use Rattle.chain.proofs.Accepted.{within-limits-not-refused, shown}
+
+abbrev pub example : ℕ → ℕ → Enquiry
+example method face =
+    record { rate = 39; absorption = 350; heat = 432; area = 7_854; method = method; distance = 15_000; face = face }
+
+safe : (method face : ℕ) → T ((diameter bounds (example method face)) .safe && (flame-height bounds (example method face)) .safe && leb ((diameter bounds (example method face)) .most) (4 * (flame-height bounds (example method face)) .least))
+unfolding opened
+safe method face = tt
+
+fuel-fits : (method face : ℕ) → not (fuel-within (example method face)) ≡ false
+unfolding fuel-within
+fuel-fits method face = refl
+
+less-fails : (m n : ℕ) → n ≤ m → ltb m n ≡ false
+less-fails m n h = by-test (ltb m n) (λ t. not-le-of-lt (ltb→lt m n t) h)
+  where
+    by-test : (b : Bool) → (T b → ⊥) → b ≡ false
+    by-test true k = absurd (k tt)
+    by-test false k = refl
+
+flame-fits : (method face : ℕ) → flame-too-low (example method face) ≡ false
+unfolding flame-too-low
+flame-fits method face =
+    let E = example method face in
+    let D = diameter bounds E in
+    let L = flame-height bounds E in
+    let t = safe method face in
+    let d = diameter-kept within E .where-safe (and-l (D .safe) (L .safe) (and-l (D .safe && L .safe) (leb (D .most) (4 * L .least)) t)) in
+    let l = flame-height-kept within E .where-safe (and-r (D .safe) (L .safe) (and-l (D .safe && L .safe) (leb (D .most) (4 * L .least)) t)) in
+    let tall = leb→le (D .most) (4 * L .least) (and-r (D .safe && L .safe) (leb (D .most) (4 * L .least)) t) in
+    let same = within-limits-not-refused E (fuel-fits method face) refl in
+    let high : (diameter answers E) .pair .high ≤ 4 * (flame-height answers E) .pair .low = le-trans (d .inside .high) (le-trans tall (mul-le-mul-left 4 (l .inside .low))) in
+    less-fails (4 * (flame-height rounded E) .low) ((diameter rounded E) .high) (rw (same .diameter-given, same .flame-height-given) at high)
+
+pub example-tested : (method face : ℕ) → outside 1 2 method ≡ false → outside 1 3 face ≡ false → Tested (example method face)
+example-tested method face m f =
+    record { fuel = fuel-fits method face; area = refl; method = m; distance = refl; face = f; flame = flame-fits method face }
+
+-- For each method and each face an enquiry is accepted.
+pub each-accepted : (method face : ℕ) → outside 1 2 method ≡ false → outside 1 3 face ≡ false → (flux-of (example method face)) .state ≡ 0
+each-accepted method face m f = ap (λ (s : Shown). s .state) (shown (example method face) (example-tested method face m f))

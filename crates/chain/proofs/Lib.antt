@@ -1,0 +1,17 @@
+pub mod Bounds
+pub mod Inside
+pub mod Within
+pub mod Sweep
+pub mod Steps
+pub mod FactorRun
+pub mod Boxes
+pub mod Opened
+pub mod Exponential
+pub mod Configuration
+pub mod Flame
+pub mod Areas
+pub mod Limits
+pub mod Accepted
+pub mod FactorAlone
+pub mod Examples
+pub mod Given

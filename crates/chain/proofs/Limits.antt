@@ -1,0 +1,82 @@
+-- The tests of one flux as facts: numbers inside their limits, and an accepted enquiry as one to which no number applies.
+-- By the outcomes of the tests, one after another. Assumes nothing.
+use mathlib.Core.Path.{_≡_, refl, subst}
+use mathlib.Core.Bool.{Bool, true, false, _&&_, not}
+use Prim.Native.Nat.{ℕ, _≤_}
+use native.Mathlib.Omega.{arith}
+use lib.Dec.{T, leb, leb→le, lit≤}
+use Rattle.chain.specs.declared.enquiry.Enquiry.{Enquiry}
+use Rattle.chain.specs.Flux.{Shown, refuse, outside, fuel-within, flame-too-low, stage-too-large, low-of, high-of, note-of, flux-of}
+use Rattle.chain.proofs.Flame.{Fuel}
+
+-- No number from 11 to 16 applies.
+pub record Tested (E : Enquiry) : Type 0 where
+  pub fuel : not (fuel-within E) ≡ false
+  pub area : outside 100 190_000 (E .area) ≡ false
+  pub method : outside 1 2 (E .method) ≡ false
+  pub distance : outside 1_000 200_000 (E .distance) ≡ false
+  pub face : outside 1 3 (E .face) ≡ false
+  pub flame : flame-too-low E ≡ false
+
+pub record Between (least n most : ℕ) : Type 0 where
+  pub low : least ≤ n
+  pub high : n ≤ most
+
+both : (a b : Bool) → not (a && b) ≡ false → T a × T b
+both true true e = (tt, tt)
+both true false e = absurd (subst T e tt)
+both false b e = absurd (subst T e tt)
+
+pub between : (least most n : ℕ) → outside least most n ≡ false → Between least n most
+between least most n e =
+    let t = both (leb least n) (leb n most) e in
+    record { low = leb→le least n (t .0); high = leb→le n most (t .1) }
+
+three : (a b c : Bool) → not (not a && not b && not c) ≡ false → (a ≡ false) × (b ≡ false) × (c ≡ false)
+three false false false e = (refl, refl, refl)
+three true b c e = absurd (subst T e tt)
+three false true c e = absurd (subst T e tt)
+three false false true e = absurd (subst T e tt)
+
+pub fuel : (E : Enquiry) → not (fuel-within E) ≡ false → Fuel E
+unfolding fuel-within
+fuel E e =
+    let t = three (outside 10 150 (E .rate)) (outside 10 500 (E .absorption)) (outside 100 500 (E .heat)) e in
+    let k = between 10 500 (E .absorption) (t .1) in
+    record {
+      rate = between 10 150 (E .rate) (t .0) .high;
+      least-absorption = k .low;
+      most-absorption = k .high;
+      heat = between 100 500 (E .heat) (t .2) .high;
+    }
+
+-- A test before what follows: another state than its own number is that of what follows.
+follows : (b : Bool) (n k : ℕ) (s : Shown) → (n ≡ k → ⊥) → (refuse b n s) .state ≡ k → (b ≡ false) × (s .state ≡ k)
+follows true n k s other e = absurd (other e)
+follows false n k s other e = (refl, e)
+
+-- A state that is none of 11 to 16 comes after all their tests.
+pub past-tests : (E : Enquiry) (k : ℕ) → ((n : ℕ) → 11 ≤ n → n ≤ 16 → n ≡ k → ⊥) → (flux-of E) .state ≡ k → Tested E
+unfolding flux-of
+past-tests E k other e =
+    let s17 = refuse (stage-too-large E) 17 (record { state = 0; low = low-of E; high = high-of E; note = note-of E }) in
+    let s16 = refuse (flame-too-low E) 16 s17 in
+    let s15 = refuse (outside 1 3 (E .face)) 15 s16 in
+    let s14 = refuse (outside 1_000 200_000 (E .distance)) 14 s15 in
+    let s13 = refuse (outside 1 2 (E .method)) 13 s14 in
+    let s12 = refuse (outside 100 190_000 (E .area)) 12 s13 in
+    let t11 = follows (not (fuel-within E)) 11 k s12 (other 11 (lit≤ tt) (lit≤ tt)) e in
+    let t12 = follows (outside 100 190_000 (E .area)) 12 k s13 (other 12 (lit≤ tt) (lit≤ tt)) (t11 .1) in
+    let t13 = follows (outside 1 2 (E .method)) 13 k s14 (other 13 (lit≤ tt) (lit≤ tt)) (t12 .1) in
+    let t14 = follows (outside 1_000 200_000 (E .distance)) 14 k s15 (other 14 (lit≤ tt) (lit≤ tt)) (t13 .1) in
+    let t15 = follows (outside 1 3 (E .face)) 15 k s16 (other 15 (lit≤ tt) (lit≤ tt)) (t14 .1) in
+    let t16 = follows (flame-too-low E) 16 k s17 (other 16 (lit≤ tt) (lit≤ tt)) (t15 .1) in
+    record { fuel = t11 .0; area = t12 .0; method = t13 .0; distance = t14 .0; face = t15 .0; flame = t16 .0 }
+
+pub accepted-tested : (E : Enquiry) → (flux-of E) .state ≡ 0 → Tested E
+accepted-tested E = past-tests E 0 (λ n l u e. omega arith)
+
+-- Where no number from 11 to 16 applies, and no stage is too large, low, high and note are shown.
+pub tested-shown : (E : Enquiry) → Tested E → stage-too-large E ≡ false → flux-of E ≡ record { state = 0; low = low-of E; high = high-of E; note = note-of E }
+unfolding flux-of
+tested-shown E t large = rw (t .fuel, t .area, t .method, t .distance, t .face, t .flame, large)

@@ -1,0 +1,128 @@
+-- `factor` meets its contract: 21, 22, 23, and inside the limits no operation refuses.
+-- Assumes nothing.
+use mathlib.Core.Path.{_≡_, refl, sym, ap, ap₂, _∙_}
+use Prim.Native.Nat.{ℕ, zero, suc, _+_, _*_, _-_, _/_, _%_, _^_, _≤_, _<_}
+use mathlib.Core.Bool.{Bool, true, false, _&&_, not}
+use native.Mathlib.Omega.{arith}
+use Rattle.pairs.specs.declared.answer.Pair.{Pair}
+use Rattle.pairs.specs.declared.answer.Refusal.{Refusal}
+use Rattle.pairs.specs.declared.answer.Answer.{Answer}
+use Rattle.pairs.specs.declared.answer.Answer.the-variants.{Is, Refused}
+use Rattle.pairs.specs.Rounded.{ends, rounded}
+use Rattle.pairs.specs.Figures.{Figures, given, refused, figures, number-of}
+use Rattle.pairs.specs.Answers.{answers}
+use Rattle.chain.specs.Chain as chain
+use Rattle.chain.specs.Flux.{outside}
+use Rattle.chain.specs.Factor.{factor-of}
+use Rattle.chain.proofs.Limits.{between}
+use Rattle.chain.proofs.FactorAlone.{factor-not-refused}
+use Rattle.chain.proofs.Given.{gives, never-refused}
+use borrow.Author.Needs.{needs}
+use Rattle.chain.proofs.factor.factor.Statement.{statement}
+use Rattle.chain.proofs.factor.factor.Tie as tie
+
+abbrev l-outside : ℕ → Bool
+l-outside l = outside 500_000_000_000 13_000_000_000_000 l
+
+abbrev e-outside : ℕ → Bool
+e-outside e = outside 40_000_000_000 400_000_000_000_000 e
+
+is-21 : (l e face : ℕ) → l-outside l ≡ true → refused 21 ≡ factor-of l e face
+unfolding factor-of
+is-21 l e face h = rw h
+
+is-22 : (l e face : ℕ) → l-outside l ≡ false → e-outside e ≡ true → refused 22 ≡ factor-of l e face
+unfolding factor-of
+is-22 l e face h k = rw (h, k)
+
+is-23 : (l e face : ℕ) → l-outside l ≡ false → e-outside e ≡ false → outside 1 3 face ≡ true → refused 23 ≡ factor-of l e face
+unfolding factor-of
+is-23 l e face h k m = rw (h, k, m)
+
+-- inside the limits the chain's factor is given, as the definition has it
+module _ (l e face : ℕ) (h : l-outside l ≡ false) (k : e-outside e ≡ false) (m : outside 1 3 face ≡ false) where
+  inside : given (chain.factor rounded face (ends l l) (ends e e)) ≡ factor-of l e face
+  unfolding factor-of
+  inside = rw (h, k, m)
+
+  worked : (a x y : Figures) → x ≡ given (ends l l) → y ≡ given (ends e e) → a ≡ chain.factor answers face x y → a ≡ given (chain.factor rounded face (ends l l) (ends e e))
+  worked a x y f g i =
+      let p = between 500_000_000_000 13_000_000_000_000 l h in
+      let q = between 40_000_000_000 400_000_000_000_000 e k in
+      i ∙ ap₂ (chain.factor answers face) f g ∙ factor-not-refused face l e (p .low) (p .high) (q .low) (q .high)
+
+outside-requires : tie.Need-outside-requires
+outside-requires c κs = search needs
+
+returns : tie.Need-returns
+returns c = is-21 _ _ _ (sym (c .before .outside .ensures) ∙ c .if1 .taken)
+
+outside-requires-2 : tie.Need-outside-requires-2
+outside-requires-2 c κs = search needs
+
+returns-2 : tie.Need-returns-2
+returns-2 c = let e1 = c .before .before in
+    is-22 _ _ _ (sym (e1 .before .outside .ensures) ∙ e1 .if1 .left) (sym (c .before .outside2 .ensures) ∙ c .if2 .taken)
+
+outside-requires-3 : tie.Need-outside-requires-3
+outside-requires-3 c κs = search needs
+
+returns-3 : tie.Need-returns-3
+returns-3 c = let e2 = c .before .before in
+    let e1 = e2 .before .before in
+    is-23 _ _ _ (sym (e1 .before .outside .ensures) ∙ e1 .if1 .left) (sym (e2 .before .outside2 .ensures) ∙ e2 .if2 .left)
+    (sym (c .before .outside3 .ensures) ∙ c .if3 .taken)
+
+exact-requires : tie.Need-exact-requires
+exact-requires c κs = search needs
+
+exact-requires-2 : tie.Need-exact-requires-2
+exact-requires-2 c κs = search needs
+
+factor-of-requires : tie.Need-factor-of-requires
+factor-of-requires c κs = search needs
+
+enum-known-p : tie.Need-enum-known-p
+enum-known-p c = search needs
+
+enum-told : tie.Need-enum-told
+enum-told c = search needs
+
+returns-4 : tie.Need-returns-4
+returns-4 c = let f = c .before .before .before in
+    let e3 = f .before .before .before in
+    let e2 = e3 .before .before in
+    let e1 = e2 .before .before in
+    let h = sym (e1 .before .outside .ensures) ∙ e1 .if1 .left in
+    let k = sym (e2 .before .outside2 .ensures) ∙ e2 .if2 .left in
+    let m = sym (e3 .before .outside3 .ensures) ∙ e3 .if3 .left in
+    ap given (gives _ _ _ (worked _ _ _ h k m _ _ _ (f .before .before .exact .ensures .0) (f .before .exact2 .ensures .0) (f .factor-of .ensures .0)) (c .before .p .given .1))
+    ∙ inside _ _ _ h k m
+
+returns-5 : tie.Need-returns-5
+returns-5 c = let f = c .before .before in
+    let e3 = f .before .before .before in
+    let e2 = e3 .before .before in
+    let e1 = e2 .before .before in
+    let h = sym (e1 .before .outside .ensures) ∙ e1 .if1 .left in
+    let k = sym (e2 .before .outside2 .ensures) ∙ e2 .if2 .left in
+    let m = sym (e3 .before .outside3 .ensures) ∙ e3 .if3 .left in
+    absurd (never-refused _ _ _ (worked _ _ _ h k m _ _ _ (f .before .before .exact .ensures .0) (f .before .exact2 .ensures .0) (f .factor-of .ensures .0)) (c .enum-told .given .1))
+
+pub factor-spec : {M : Type 1} → statement M
+factor-spec =
+    tie.close
+    (tie.spec
+    outside-requires
+    returns
+    outside-requires-2
+    returns-2
+    outside-requires-3
+    returns-3
+    exact-requires
+    exact-requires-2
+    factor-of-requires
+    enum-known-p
+    enum-told
+    returns-4
+    returns-5)

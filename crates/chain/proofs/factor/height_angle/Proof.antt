@@ -1,0 +1,47 @@
+-- `height_angle` meets its contract: the step's operations, one by one.
+-- Assumes nothing.
+use mathlib.Core.Path.{_≡_, refl, sym, ap, _∙_}
+use Rattle.pairs.specs.Rounded as R
+use Rattle.pairs.specs.Answers as A
+use Rattle.chain.specs.Chain as chain
+use borrow.Author.Needs.{needs}
+use Rattle.chain.proofs.factor.height_angle.Statement.{statement}
+use Rattle.chain.proofs.factor.height_angle.Tie as tie
+
+g-of-requires : tie.Need-g-of-requires
+g-of-requires c κs = search needs
+
+product-of-requires : tie.Need-product-of-requires
+product-of-requires c κs = search needs
+
+root-of-requires : tie.Need-root-of-requires
+root-of-requires c κs = search needs
+
+quotient-of-requires : tie.Need-quotient-of-requires
+quotient-of-requires c κs = search needs
+
+atan-of-requires : tie.Need-atan-of-requires
+atan-of-requires c κs = search needs
+
+x-of-requires : tie.Need-x-of-requires
+x-of-requires c κs = search needs
+
+quotient-of-requires-2 : tie.Need-quotient-of-requires-2
+quotient-of-requires-2 c κs = search needs
+
+returns : tie.Need-returns
+unfolding chain.height-angle
+returns c = (cc, c .quotient-of2 .ensures .1)
+
+pub height-angle-spec : {M : Type 1} → statement M
+height-angle-spec =
+    tie.close
+    (tie.spec
+    g-of-requires
+    product-of-requires
+    root-of-requires
+    quotient-of-requires
+    atan-of-requires
+    x-of-requires
+    quotient-of-requires-2
+    returns)

@@ -1,0 +1,67 @@
+-- `horizontal` meets its contract: the step's operations, one by one.
+-- Assumes nothing.
+use mathlib.Core.Path.{_≡_, refl, sym, ap, _∙_}
+use Rattle.pairs.specs.Rounded as R
+use Rattle.pairs.specs.Answers as A
+use Rattle.chain.specs.Chain as chain
+use borrow.Author.Needs.{needs}
+use Rattle.chain.proofs.factor.horizontal.Statement.{statement}
+use Rattle.chain.proofs.factor.horizontal.Tie as tie
+
+g-of-requires : tie.Need-g-of-requires
+g-of-requires c κs = search needs
+
+product-of-requires : tie.Need-product-of-requires
+product-of-requires c κs = search needs
+
+product-of-requires-2 : tie.Need-product-of-requires-2
+product-of-requires-2 c κs = search needs
+
+sum-of-requires : tie.Need-sum-of-requires
+sum-of-requires c κs = search needs
+
+quotient-of-requires : tie.Need-quotient-of-requires
+quotient-of-requires c κs = search needs
+
+quotient-of-requires-2 : tie.Need-quotient-of-requires-2
+quotient-of-requires-2 c κs = search needs
+
+root-of-requires : tie.Need-root-of-requires
+root-of-requires c κs = search needs
+
+atan-of-requires : tie.Need-atan-of-requires
+atan-of-requires c κs = search needs
+
+product-of-requires-3 : tie.Need-product-of-requires-3
+product-of-requires-3 c κs = search needs
+
+difference-of-requires : tie.Need-difference-of-requires
+difference-of-requires c κs = search needs
+
+pi-answer-requires : tie.Need-pi-answer-requires
+pi-answer-requires c κs = search needs
+
+quotient-of-requires-3 : tie.Need-quotient-of-requires-3
+quotient-of-requires-3 c κs = search needs
+
+returns : tie.Need-returns
+unfolding chain.horizontal chain.horizontal-ratio
+returns c = (cc, c .quotient-of3 .ensures .1)
+
+pub horizontal-spec : {M : Type 1} → statement M
+horizontal-spec =
+    tie.close
+    (tie.spec
+    g-of-requires
+    product-of-requires
+    product-of-requires-2
+    sum-of-requires
+    quotient-of-requires
+    quotient-of-requires-2
+    root-of-requires
+    atan-of-requires
+    product-of-requires-3
+    difference-of-requires
+    pi-answer-requires
+    quotient-of-requires-3
+    returns)

@@ -1,0 +1,30 @@
+-- `v_of` meets its contract: the step's operations, one by one.
+-- Assumes nothing.
+use mathlib.Core.Path.{_≡_, refl, sym, ap, _∙_}
+use Rattle.pairs.specs.Rounded as R
+use Rattle.pairs.specs.Answers as A
+use Rattle.chain.specs.Chain as chain
+use borrow.Author.Needs.{needs}
+use Rattle.chain.proofs.factor.v_of.Statement.{statement}
+use Rattle.chain.proofs.factor.v_of.Tie as tie
+
+product-of-requires : tie.Need-product-of-requires
+product-of-requires c κs = search needs
+
+product-of-requires-2 : tie.Need-product-of-requires-2
+product-of-requires-2 c κs = search needs
+
+sum-of-requires : tie.Need-sum-of-requires
+sum-of-requires c κs = search needs
+
+root-of-requires : tie.Need-root-of-requires
+root-of-requires c κs = search needs
+
+returns : tie.Need-returns
+unfolding chain.v
+returns c = (cc, c .root-of .ensures .1)
+
+pub v-of-spec : {M : Type 1} → statement M
+v-of-spec =
+    tie.close
+    (tie.spec product-of-requires product-of-requires-2 sum-of-requires root-of-requires returns)

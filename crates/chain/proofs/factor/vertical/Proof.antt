@@ -1,0 +1,71 @@
+-- `vertical` meets its contract: the step's operations, one by one.
+-- Assumes nothing.
+use mathlib.Core.Path.{_≡_, refl, sym, ap, _∙_}
+use Rattle.pairs.specs.Rounded as R
+use Rattle.pairs.specs.Answers as A
+use Rattle.chain.specs.Chain as chain
+use borrow.Author.Needs.{needs}
+use Rattle.chain.proofs.factor.vertical.Statement.{statement}
+use Rattle.chain.proofs.factor.vertical.Tie as tie
+
+x-of-requires : tie.Need-x-of-requires
+x-of-requires c κs = search needs
+
+quotient-of-requires : tie.Need-quotient-of-requires
+quotient-of-requires c κs = search needs
+
+height-angle-requires : tie.Need-height-angle-requires
+height-angle-requires c κs = search needs
+
+vertical-ratio-requires : tie.Need-vertical-ratio-requires
+vertical-ratio-requires c κs = search needs
+
+product-of-requires : tie.Need-product-of-requires
+product-of-requires c κs = search needs
+
+product-of-requires-2 : tie.Need-product-of-requires-2
+product-of-requires-2 c κs = search needs
+
+sum-of-requires : tie.Need-sum-of-requires
+sum-of-requires c κs = search needs
+
+r-of-requires : tie.Need-r-of-requires
+r-of-requires c κs = search needs
+
+atan-of-requires : tie.Need-atan-of-requires
+atan-of-requires c κs = search needs
+
+product-of-requires-3 : tie.Need-product-of-requires-3
+product-of-requires-3 c κs = search needs
+
+difference-of-requires : tie.Need-difference-of-requires
+difference-of-requires c κs = search needs
+
+pi-answer-requires : tie.Need-pi-answer-requires
+pi-answer-requires c κs = search needs
+
+quotient-of-requires-2 : tie.Need-quotient-of-requires-2
+quotient-of-requires-2 c κs = search needs
+
+returns : tie.Need-returns
+unfolding chain.vertical
+returns c = (cc, c .quotient-of2 .ensures .1)
+
+pub vertical-spec : {M : Type 1} → statement M
+vertical-spec =
+    tie.close
+    (tie.spec
+    x-of-requires
+    quotient-of-requires
+    height-angle-requires
+    vertical-ratio-requires
+    product-of-requires
+    product-of-requires-2
+    sum-of-requires
+    r-of-requires
+    atan-of-requires
+    product-of-requires-3
+    difference-of-requires
+    pi-answer-requires
+    quotient-of-requires-2
+    returns)

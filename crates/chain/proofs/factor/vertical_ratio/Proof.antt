@@ -1,0 +1,47 @@
+-- `vertical_ratio` meets its contract: the step's operations, one by one.
+-- Assumes nothing.
+use mathlib.Core.Path.{_≡_, refl, sym, ap, _∙_}
+use Rattle.pairs.specs.Rounded as R
+use Rattle.pairs.specs.Answers as A
+use Rattle.chain.specs.Chain as chain
+use borrow.Author.Needs.{needs}
+use Rattle.chain.proofs.factor.vertical_ratio.Statement.{statement}
+use Rattle.chain.proofs.factor.vertical_ratio.Tie as tie
+
+x-of-requires : tie.Need-x-of-requires
+x-of-requires c κs = search needs
+
+product-of-requires : tie.Need-product-of-requires
+product-of-requires c κs = search needs
+
+product-of-requires-2 : tie.Need-product-of-requires-2
+product-of-requires-2 c κs = search needs
+
+sum-of-requires : tie.Need-sum-of-requires
+sum-of-requires c κs = search needs
+
+exact-requires : tie.Need-exact-requires
+exact-requires c κs = search needs
+
+sum-of-requires-2 : tie.Need-sum-of-requires-2
+sum-of-requires-2 c κs = search needs
+
+quotient-of-requires : tie.Need-quotient-of-requires
+quotient-of-requires c κs = search needs
+
+returns : tie.Need-returns
+unfolding chain.vertical-ratio A.constant A.fitting R.constant
+returns c = (cc, c .quotient-of .ensures .1)
+
+pub vertical-ratio-spec : {M : Type 1} → statement M
+vertical-ratio-spec =
+    tie.close
+    (tie.spec
+    x-of-requires
+    product-of-requires
+    product-of-requires-2
+    sum-of-requires
+    exact-requires
+    sum-of-requires-2
+    quotient-of-requires
+    returns)

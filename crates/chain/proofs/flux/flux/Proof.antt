@@ -1,0 +1,119 @@
+-- `flux` meets its contract: 11 to 15 in their order, then what is within the limits.
+-- Assumes nothing.
+use mathlib.Core.Path.{_≡_, refl, sym, ap, ap₂, _∙_}
+use Prim.Native.Nat.{ℕ, zero, suc, _+_, _*_, _-_, _/_, _%_, _^_, _≤_, _<_}
+use mathlib.Core.Bool.{Bool, true, false, _&&_, not}
+use Rattle.chain.specs.declared.enquiry.Enquiry.{Enquiry}
+use Rattle.pairs.specs.declared.answer.Pair.{Pair}
+use Rattle.pairs.specs.Rounded.{U, down, up, rounded}
+use Rattle.pairs.specs.Figures.{Figures, figures, given}
+use Rattle.pairs.specs.Answers.{answers}
+use Rattle.chain.specs.Chain as chain
+use Rattle.chain.specs.Flux.{Shown, refused, outside, fuel-within, flame-too-low, low-of, high-of, note-of, flux-of}
+use borrow.Author.Needs.{needs}
+use Rattle.chain.proofs.flux.flux.Statement.{statement}
+use Rattle.chain.proofs.flux.flux.Tie as tie
+
+is-11 : (E : Enquiry) → not (fuel-within E) ≡ true → refused 11 ≡ flux-of E
+unfolding flux-of
+is-11 E a = rw a
+
+is-12 : (E : Enquiry) → not (fuel-within E) ≡ false → outside 100 190_000 (E .area) ≡ true → refused 12 ≡ flux-of E
+unfolding flux-of
+is-12 E a b = rw (a, b)
+
+is-13 : (E : Enquiry) → not (fuel-within E) ≡ false → outside 100 190_000 (E .area) ≡ false → outside 1 2 (E .method) ≡ true → refused 13 ≡ flux-of E
+unfolding flux-of
+is-13 E a b c = rw (a, b, c)
+
+is-14 : (E : Enquiry) → not (fuel-within E) ≡ false → outside 100 190_000 (E .area) ≡ false → outside 1 2 (E .method) ≡ false → outside 1_000 200_000 (E .distance) ≡ true → refused 14 ≡ flux-of E
+unfolding flux-of
+is-14 E a b c d = rw (a, b, c, d)
+
+is-15 : (E : Enquiry) → not (fuel-within E) ≡ false → outside 100 190_000 (E .area) ≡ false → outside 1 2 (E .method) ≡ false → outside 1_000 200_000 (E .distance) ≡ false → outside 1 3 (E .face) ≡ true → refused 15 ≡ flux-of E
+unfolding flux-of
+is-15 E a b c d e = rw (a, b, c, d, e)
+
+fuel-within-requires : tie.Need-fuel-within-requires
+fuel-within-requires c κs = search needs
+
+returns : tie.Need-returns
+returns c = is-11 _ (ap not (sym (c .before .fuel-within .ensures)) ∙ c .if1 .taken)
+
+cast-outside : tie.Need-cast-outside
+cast-outside c = search needs
+
+outside-requires : tie.Need-outside-requires
+outside-requires c κs = search needs
+
+returns-2 : tie.Need-returns-2
+returns-2 c = let e1 = c .before .before .before in
+    is-12 _ (ap not (sym (e1 .before .fuel-within .ensures)) ∙ e1 .if1 .left) (sym (c .before .outside .ensures) ∙ c .if2 .taken)
+
+cast-outside-2 : tie.Need-cast-outside-2
+cast-outside-2 c = search needs
+
+outside-requires-2 : tie.Need-outside-requires-2
+outside-requires-2 c κs = search needs
+
+returns-3 : tie.Need-returns-3
+returns-3 c = let e2 = c .before .before .before in
+    let e1 = e2 .before .before .before in
+    is-13 _ (ap not (sym (e1 .before .fuel-within .ensures)) ∙ e1 .if1 .left) (sym (e2 .before .outside .ensures) ∙ e2 .if2 .left) (sym (c .before .outside2 .ensures) ∙ c .if3 .taken)
+
+cast-outside-3 : tie.Need-cast-outside-3
+cast-outside-3 c = search needs
+
+outside-requires-3 : tie.Need-outside-requires-3
+outside-requires-3 c κs = search needs
+
+returns-4 : tie.Need-returns-4
+returns-4 c = let e3 = c .before .before .before in
+    let e2 = e3 .before .before .before in
+    let e1 = e2 .before .before .before in
+    is-14 _ (ap not (sym (e1 .before .fuel-within .ensures)) ∙ e1 .if1 .left) (sym (e2 .before .outside .ensures) ∙ e2 .if2 .left) (sym (e3 .before .outside2 .ensures) ∙ e3 .if3 .left) (sym (c .before .outside3 .ensures) ∙ c .if4 .taken)
+
+cast-outside-4 : tie.Need-cast-outside-4
+cast-outside-4 c = search needs
+
+outside-requires-4 : tie.Need-outside-requires-4
+outside-requires-4 c κs = search needs
+
+returns-5 : tie.Need-returns-5
+returns-5 c = let e4 = c .before .before .before in
+    let e3 = e4 .before .before .before in
+    let e2 = e3 .before .before .before in
+    let e1 = e2 .before .before .before in
+    is-15 _ (ap not (sym (e1 .before .fuel-within .ensures)) ∙ e1 .if1 .left) (sym (e2 .before .outside .ensures) ∙ e2 .if2 .left) (sym (e3 .before .outside2 .ensures) ∙ e3 .if3 .left) (sym (e4 .before .outside3 .ensures) ∙ e4 .if4 .left) (sym (c .before .outside4 .ensures) ∙ c .if5 .taken)
+
+flux-within-requires : tie.Need-flux-within-requires
+flux-within-requires c κs = let e5 = c in
+    let e4 = e5 .before .before .before in
+    let e3 = e4 .before .before .before in
+    let e2 = e3 .before .before .before in
+    let e1 = e2 .before .before .before in
+    (ap not (sym (e1 .before .fuel-within .ensures)) ∙ e1 .if1 .left, sym (e2 .before .outside .ensures) ∙ e2 .if2 .left, sym (e3 .before .outside2 .ensures) ∙ e3 .if3 .left, sym (e4 .before .outside3 .ensures) ∙ e4 .if4 .left, sym (e5 .before .outside4 .ensures) ∙ e5 .if5 .left)
+
+returns-6 : tie.Need-returns-6
+returns-6 c = search needs
+
+pub flux-spec : {M : Type 1} → statement M
+flux-spec =
+    tie.close
+    (tie.spec
+    fuel-within-requires
+    returns
+    cast-outside
+    outside-requires
+    returns-2
+    cast-outside-2
+    outside-requires-2
+    returns-3
+    cast-outside-3
+    outside-requires-3
+    returns-4
+    cast-outside-4
+    outside-requires-4
+    returns-5
+    flux-within-requires
+    returns-6)

@@ -1,0 +1,72 @@
+-- `larger_of` meets its contract: the larger ends of two pairs in order are in order, and fit.
+-- Assumes nothing.
+use mathlib.Core.Path.{_≡_, refl, sym, ap, _∙_}
+use Prim.Native.Nat.{ℕ, _^_, _≤_, _<_, max, zero-le}
+use native.Mathlib.Omega.{arith}
+use Rattle.pairs.specs.declared.answer.Pair.{Pair}
+use Rattle.pairs.specs.declared.answer.Answer.{Answer}
+use Rattle.pairs.specs.declared.answer.Answer.the-variants.{Is}
+use Rattle.pairs.specs.Rounded as R
+use Rattle.pairs.specs.Rounded.{ends}
+use Rattle.pairs.specs.Figures.{figures, given}
+use Rattle.pairs.specs.Private.{in-order}
+use Rattle.pairs.specs.Answers as A
+use Rattle.pairs.proofs.Agreement.{fitting-given}
+use Rattle.pairs.proofs.Lifted.{stays, stays-second}
+use borrow.Author.Needs.{needs}
+use Rattle.chain.proofs.lifted.larger_of.Statement.{statement}
+use Rattle.chain.proofs.lifted.larger_of.Tie as tie
+
+larger-ends :
+    (a b : Answer) (p q : Pair) (l h : ℕ) → in-order a → in-order b → a ≡ Is p → b ≡ Is q → h < 2 ^ 64
+    → l ≡ max (p .low) (q .low) → h ≡ max (p .high) (q .high) → (given (ends l h) ≡ A.larger (figures a) (figures b)) × (l ≤ h)
+unfolding A.larger R.larger
+larger-ends a b p q l h o k e f m u v =
+    let i : p .low ≤ p .high = rw e at o in
+    let j : q .low ≤ q .high = rw f at k in
+    (rw (e, f, u, v) (sym (fitting-given (R.larger p q) (omega arith))), omega arith)
+
+enum-known-a : tie.Need-enum-known-a
+enum-known-a c = search needs
+
+enum-known-b : tie.Need-enum-known-b
+enum-known-b c = search needs
+
+larger-requires : tie.Need-larger-requires
+larger-requires c κs = search needs
+
+larger-requires-2 : tie.Need-larger-requires-2
+larger-requires-2 c κs = search needs
+
+enum-known-b-2 : tie.Need-enum-known-b-2
+enum-known-b-2 c = search needs
+
+enum-known-a-2 : tie.Need-enum-known-a-2
+enum-known-a-2 c = search needs
+
+returns : tie.Need-returns
+returns c = let s = c .before .before .before .before .before .before .before .before in
+    larger-ends _ _ _ _ _ _ (s .pre .0) (s .pre .1) (c .before .before .before .before .before .before .a .given .1) (c .before .before .before .b .given .1)
+    (c .larger2 .ok) (c .before .larger .ensures) (c .larger2 .ensures)
+
+returns-2 : tie.Need-returns-2
+unfolding A.larger
+returns-2 c = (stays-second _ _ _ _ _ (c .before .before .before .before .a .given .1) (c .before .b2 .given .1), zero-le)
+
+returns-3 : tie.Need-returns-3
+unfolding A.larger
+returns-3 c = (stays _ _ _ (c .before .a2 .given .1), zero-le)
+
+pub larger-of-spec : {M : Type 1} → statement M
+larger-of-spec =
+    tie.close
+    (tie.spec
+    enum-known-a
+    enum-known-b
+    larger-requires
+    larger-requires-2
+    enum-known-b-2
+    enum-known-a-2
+    returns
+    returns-2
+    returns-3)

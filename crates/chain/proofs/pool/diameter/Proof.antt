@@ -1,0 +1,56 @@
+-- `diameter` meets its contract: the step's operations, one by one.
+-- Assumes nothing.
+use mathlib.Core.Path.{_≡_, refl, sym, ap, _∙_}
+use Prim.Native.Nat.{ℕ, zero, suc, _+_, _*_, _-_, _/_, _%_, _^_, _≤_, _<_}
+use native.Mathlib.Omega.{arith}
+use Rattle.pairs.specs.Rounded as R
+use Rattle.pairs.specs.Answers as A
+use Rattle.chain.specs.Chain as chain
+use Rattle.pairs.specs.Rounded.{U, ends}
+use Rattle.pairs.specs.Figures.{given}
+use Rattle.pairs.proofs.Agreement.{fitting-given}
+use borrow.Author.Needs.{needs}
+use Rattle.chain.proofs.pool.diameter.Statement.{statement}
+use Rattle.chain.proofs.pool.diameter.Tie as tie
+
+-- 4a/100 in trillionths
+pool-area : (a : ℕ) → a ≤ 190_000 → given (ends (a * 40_000_000_000) (a * 40_000_000_000)) ≡ A.constant (4 * a) 100
+unfolding A.constant R.constant
+pool-area a h = rw (quarter a) (sym (fitting-given (ends (a * 40_000_000_000) (a * 40_000_000_000)) (omega arith)))
+  where
+    quarter : (a : ℕ) → 4 * a * U / 100 ≡ a * 40_000_000_000
+    quarter a = omega arith
+
+cast-a : tie.Need-cast-a
+cast-a c = search needs
+
+mul-exact : tie.Need-mul-exact
+mul-exact c = search needs
+
+exact-requires : tie.Need-exact-requires
+exact-requires c κs = search needs
+
+pi-answer-requires : tie.Need-pi-answer-requires
+pi-answer-requires c κs = search needs
+
+quotient-of-requires : tie.Need-quotient-of-requires
+quotient-of-requires c κs = search needs
+
+root-of-requires : tie.Need-root-of-requires
+root-of-requires c κs = search needs
+
+returns : tie.Need-returns
+unfolding chain.diameter
+returns c = (cc (pool-area (c .before .before .before .before .before .args .e .area) (c .before .before .before .before .before .pre)), c .root-of .ensures .1)
+
+pub diameter-spec : {M : Type 1} → statement M
+diameter-spec =
+    tie.close
+    (tie.spec
+    cast-a
+    mul-exact
+    exact-requires
+    pi-answer-requires
+    quotient-of-requires
+    root-of-requires
+    returns)

@@ -1,0 +1,36 @@
+-- `emissive_power` meets its contract: the method picks.
+-- Assumes nothing.
+use mathlib.Core.Path.{_≡_, refl, sym, ap, ap₂, _∙_}
+use mathlib.Core.Bool.{Bool, true, false}
+use lib.Dec.{eqb}
+use borrow.Author.Tests.{eq-eqb, ne-eqb}
+use Rattle.chain.specs.declared.enquiry.Enquiry.{Enquiry}
+use Rattle.pairs.specs.Rounded as R
+use Rattle.pairs.specs.Answers as A
+use Rattle.chain.specs.Chain as chain
+use Rattle.pairs.specs.Figures.{Figures}
+use borrow.Author.Needs.{needs}
+use Rattle.chain.proofs.pool.emissive_power.Statement.{statement}
+use Rattle.chain.proofs.pool.emissive_power.Tie as tie
+
+picked : (E : Enquiry) (b : Bool) → eqb (E .method) 1 ≡ b → (elim b [ true ↦ chain.emissive-power-1 A.answers E | false ↦ chain.emissive-power-2 A.answers E ]) ≡ chain.emissive-power A.answers E
+unfolding chain.emissive-power
+picked E b e = ap (λ (t : Bool). elim t as (λ _. Figures) [ true ↦ chain.emissive-power-1 A.answers E | false ↦ chain.emissive-power-2 A.answers E ]) (sym e)
+
+emissive-power-1-requires : tie.Need-emissive-power-1-requires
+emissive-power-1-requires c κs = search needs
+
+returns : tie.Need-returns
+unfolding chain.emissive-power
+returns c = (c .emissive-power-1 .ensures .0 ∙ picked _ true (eq-eqb _ 1 (c .before .if1 .taken)), c .emissive-power-1 .ensures .1)
+
+emissive-power-2-requires : tie.Need-emissive-power-2-requires
+emissive-power-2-requires c κs = search needs
+
+returns-2 : tie.Need-returns-2
+unfolding chain.emissive-power
+returns-2 c = (c .emissive-power-2 .ensures .0 ∙ picked _ false (ne-eqb _ 1 (c .before .if1 .left)), c .emissive-power-2 .ensures .1)
+
+pub emissive-power-spec : {M : Type 1} → statement M
+emissive-power-spec =
+    tie.close (tie.spec emissive-power-1-requires returns emissive-power-2-requires returns-2)

@@ -1,0 +1,47 @@
+-- `flame_surface` meets its contract: the step's operations, one by one.
+-- Assumes nothing.
+use mathlib.Core.Path.{_≡_, refl, sym, ap, _∙_}
+use Rattle.pairs.specs.Rounded as R
+use Rattle.pairs.specs.Answers as A
+use Rattle.chain.specs.Chain as chain
+use borrow.Author.Needs.{needs}
+use Rattle.chain.proofs.pool.flame_surface.Statement.{statement}
+use Rattle.chain.proofs.pool.flame_surface.Tie as tie
+
+pi-answer-requires : tie.Need-pi-answer-requires
+pi-answer-requires c κs = search needs
+
+product-of-requires : tie.Need-product-of-requires
+product-of-requires c κs = search needs
+
+product-of-requires-2 : tie.Need-product-of-requires-2
+product-of-requires-2 c κs = search needs
+
+product-of-requires-3 : tie.Need-product-of-requires-3
+product-of-requires-3 c κs = search needs
+
+product-of-requires-4 : tie.Need-product-of-requires-4
+product-of-requires-4 c κs = search needs
+
+over-of-requires : tie.Need-over-of-requires
+over-of-requires c κs = search needs
+
+sum-of-requires : tie.Need-sum-of-requires
+sum-of-requires c κs = search needs
+
+returns : tie.Need-returns
+unfolding chain.flame-surface
+returns c = (cc, c .sum-of .ensures .1)
+
+pub flame-surface-spec : {M : Type 1} → statement M
+flame-surface-spec =
+    tie.close
+    (tie.spec
+    pi-answer-requires
+    product-of-requires
+    product-of-requires-2
+    product-of-requires-3
+    product-of-requires-4
+    over-of-requires
+    sum-of-requires
+    returns)

@@ -1,0 +1,95 @@
+-- `heat_release` meets its contract: the step's operations, one by one.
+-- Assumes nothing.
+use mathlib.Core.Path.{_≡_, refl, sym, ap, ap₂, _∙_}
+use Prim.Native.Nat.{ℕ, zero, suc, _+_, _*_, _-_, _/_, _%_, _^_, _≤_, _<_}
+use Rattle.chain.specs.declared.enquiry.Enquiry.{Enquiry}
+use native.Mathlib.Nat.{mul-le-mul}
+use native.Mathlib.Omega.{arith}
+use Rattle.pairs.specs.Rounded as R
+use Rattle.pairs.specs.Answers as A
+use Rattle.chain.specs.Chain as chain
+use Rattle.pairs.specs.Rounded.{U, ends}
+use Rattle.pairs.specs.Figures.{Figures, given}
+use Rattle.pairs.proofs.Agreement.{fitting-given}
+use borrow.Author.Needs.{needs}
+use Rattle.chain.proofs.pool.heat_release.Statement.{statement}
+use Rattle.chain.proofs.pool.heat_release.Tie as tie
+
+-- the largest products inside the limits
+most : (m c a : ℕ) → m ≤ 150 → c ≤ 500 → a ≤ 190_000 → (m * c ≤ 150 * 500) × (m * c * a ≤ 150 * 500 * 190_000)
+most m c a h k l = let p : m * c ≤ 150 * 500 = mul-le-mul h k in (p, mul-le-mul p l)
+
+-- m·c·a/1000 in trillionths
+rate : (m c a : ℕ) → m ≤ 150 → c ≤ 500 → a ≤ 190_000 → given (ends (m * c * a * 1_000_000_000) (m * c * a * 1_000_000_000)) ≡ A.constant (m * c * a) 1000
+unfolding A.constant R.constant
+rate m c a h k l =
+    rw (thousandth (m * c * a))
+    (sym (fitting-given (ends (m * c * a * 1_000_000_000) (m * c * a * 1_000_000_000)) (omega (arith, most m c a h k l .1))))
+  where
+    thousandth : (n : ℕ) → n * U / 1000 ≡ n * 1_000_000_000
+    thousandth n = omega arith
+
+released :
+    (E : Enquiry) (n o x d r : Figures) → n ≡ A.constant (E .rate * E .heat * E .area) 1000 → o ≡ given (ends U U) → x ≡ chain.unabsorbed A.answers E
+    → d ≡ A.difference o x → r ≡ A.product n d → r ≡ chain.heat-release A.answers E
+unfolding chain.heat-release A.constant A.fitting R.constant
+released E n o x d r e f g h k = k ∙ ap₂ A.product e (h ∙ ap₂ A.difference f g)
+
+cast-m : tie.Need-cast-m
+cast-m c = search needs
+
+cast-c : tie.Need-cast-c
+cast-c c = search needs
+
+cast-a : tie.Need-cast-a
+cast-a c = search needs
+
+mul-exact : tie.Need-mul-exact
+mul-exact c = omega (arith, most (c .before .before .before .args .e .rate) (c .before .before .before .args .e .heat) (c .before .before .before .args .e .area) (c .before .before .before .pre .0 .0) (c .before .before .before .pre .0 .1) (c .before .before .before .pre .0 .2) .0)
+
+mul-exact-2 : tie.Need-mul-exact-2
+mul-exact-2 c = omega (arith, most (c .before .before .before .args .e .rate) (c .before .before .before .args .e .heat) (c .before .before .before .args .e .area) (c .before .before .before .pre .0 .0) (c .before .before .before .pre .0 .1) (c .before .before .before .pre .0 .2) .1)
+
+mul-exact-3 : tie.Need-mul-exact-3
+mul-exact-3 c = omega (arith, most (c .before .before .before .args .e .rate) (c .before .before .before .args .e .heat) (c .before .before .before .args .e .area) (c .before .before .before .pre .0 .0) (c .before .before .before .pre .0 .1) (c .before .before .before .pre .0 .2) .1)
+
+exact-requires : tie.Need-exact-requires
+exact-requires c κs = search needs
+
+exact-requires-2 : tie.Need-exact-requires-2
+exact-requires-2 c κs = search needs
+
+unabsorbed-requires : tie.Need-unabsorbed-requires
+unabsorbed-requires c κs = search needs
+
+difference-of-requires : tie.Need-difference-of-requires
+difference-of-requires c κs = search needs
+
+product-of-requires : tie.Need-product-of-requires
+product-of-requires c κs = search needs
+
+returns : tie.Need-returns
+unfolding chain.heat-release
+returns c = let s = c .before .before .before .before .before .before .before .before in
+    let e = s .args .e in (
+      released e _ _ _ _ _ (c .before .before .before .before .exact .ensures .0 ∙ rate (e .rate) (e .heat) (e .area) (s .pre .0 .0) (s .pre .0 .1) (s .pre .0 .2))
+          (c .before .before .before .exact2 .ensures .0) (c .before .before .unabsorbed .ensures .0) (c .before .difference-of .ensures .0) (c .product-of .ensures .0),
+      c .product-of .ensures .1,
+    )
+
+pub heat-release-spec : {M : Type 1} → statement M
+heat-release-spec =
+    tie.close
+    (tie.spec
+    cast-m
+    cast-c
+    cast-a
+    mul-exact
+    mul-exact-2
+    mul-exact-3
+    exact-requires
+    exact-requires-2
+    unabsorbed-requires
+    difference-of-requires
+    product-of-requires
+    returns)

@@ -1,0 +1,29 @@
+-- `unabsorbed` meets its contract: the step's operations, one by one.
+-- Assumes nothing.
+use mathlib.Core.Path.{_≡_, refl, sym, ap, _∙_}
+use Rattle.pairs.specs.Rounded as R
+use Rattle.pairs.specs.Answers as A
+use Rattle.chain.specs.Chain as chain
+use borrow.Author.Needs.{needs}
+use Rattle.chain.proofs.pool.unabsorbed.Statement.{statement}
+use Rattle.chain.proofs.pool.unabsorbed.Tie as tie
+
+cast-k : tie.Need-cast-k
+cast-k c = search needs
+
+times-of-requires : tie.Need-times-of-requires
+times-of-requires c κs = search needs
+
+over-of-requires : tie.Need-over-of-requires
+over-of-requires c κs = search needs
+
+exp-neg-of-requires : tie.Need-exp-neg-of-requires
+exp-neg-of-requires c κs = search needs
+
+returns : tie.Need-returns
+unfolding chain.unabsorbed chain.optical-depth
+returns c = (cc, c .exp-neg-of .ensures .1)
+
+pub unabsorbed-spec : {M : Type 1} → statement M
+unabsorbed-spec =
+    tie.close (tie.spec cast-k times-of-requires over-of-requires exp-neg-of-requires returns)

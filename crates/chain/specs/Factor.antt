@@ -1,0 +1,29 @@
+-- Document 01, "Factor alone" under "Turned back": the configuration factor from l and e, on all numbers.
+use Prim.Native.Nat.{ℕ}
+use Rattle.pairs.specs.Rounded.{ends, rounded}
+use Rattle.pairs.specs.Figures.{Figures, given, refused, refuse}
+use Rattle.chain.specs.declared.enquiry.Outside.{Outside}
+use Rattle.chain.specs.declared.enquiry.Outside.the-variants as reason
+use Rattle.chain.specs.declared.enquiry.Factor.{Factor}
+use Rattle.chain.specs.declared.enquiry.Factor.the-variants.{Is, Refused}
+use Rattle.chain.specs.Chain.{factor}
+use Rattle.chain.specs.Flux.{outside}
+
+-- The numbers of "Factor alone".
+abbrev pub number-of : Outside → ℕ
+number-of reason.Height = 21
+number-of reason.Distance = 22
+number-of reason.Face = 23
+
+-- This paper's number and pair for each case of the enum Factor; "Returns [0, 0]."
+abbrev pub figures : Factor → Figures
+figures (Is p) = given p
+figures (Refused why) = refused (number-of why)
+
+-- "21, l outside 0.5 to 13; 22, e outside 0.04 to 400; 23, face", "each one whole number of trillionths taken as an exact pair".
+unfoldable pub factor-of : ℕ → ℕ → ℕ → Figures
+factor-of l e face =
+    refuse (outside 500_000_000_000 13_000_000_000_000 l) 21
+    (refuse (outside 40_000_000_000 400_000_000_000_000 e) 22
+    (refuse (outside 1 3 face) 23
+    (given (factor rounded face (ends l l) (ends e e)))))

@@ -1,0 +1,82 @@
+-- Document 01, "One flux" under "Turned back": what is shown for an enquiry, on all numbers.
+use Prim.Native.Nat.{ℕ, _+_, _*_, _^_}
+use mathlib.Core.Bool.{Bool, true, false, _&&_, not}
+use lib.Dec.{leb, ltb, eqb}
+use Rattle.pairs.specs.Rounded.{U, down, up, rounded}
+use Rattle.pairs.specs.Answers.{answers}
+use Rattle.chain.specs.declared.enquiry.Enquiry.{Enquiry}
+use Rattle.chain.specs.declared.enquiry.Printed.{Printed}
+use Rattle.chain.specs.declared.enquiry.Turned.{Turned}
+use Rattle.chain.specs.declared.enquiry.Turned.the-variants as turned
+use Rattle.chain.specs.declared.enquiry.Flux.{Flux}
+use Rattle.chain.specs.declared.enquiry.Flux.the-variants.{Is, Refused}
+use Rattle.chain.specs.Chain.{diameter, flame-height, radiant-flux}
+
+-- State, low, high and note as this paper shows them.
+pub record Shown : Type 0 where
+  pub state : ℕ
+  pub low : ℕ
+  pub high : ℕ
+  pub note : ℕ
+
+-- "Returns zeros for low, high and note."
+abbrev pub refused : ℕ → Shown
+refused n = record { state = n; low = 0; high = 0; note = 0 }
+
+abbrev pub number-of : Turned → ℕ
+number-of turned.Fuel = 11
+number-of turned.Area = 12
+number-of turned.Method = 13
+number-of turned.Distance = 14
+number-of turned.Face = 15
+number-of turned.LowFlame = 16
+number-of turned.TooLarge = 17
+
+-- This paper's number and values for each case of the enum Flux.
+abbrev pub shown : Flux → Shown
+shown (Is p) = record { state = 0; low = p .low; high = p .high; note = p .note }
+shown (Refused why) = refused (number-of why)
+
+-- The number where the test holds, else what follows: "the first number that applies, in the order written, is given."
+abbrev pub refuse : Bool → ℕ → Shown → Shown
+refuse true n s = refused n
+refuse false n s = s
+
+-- "limits included"
+abbrev pub outside : ℕ → ℕ → ℕ → Bool
+outside least most n = not (leb least n && leb n most)
+
+-- "burning rate m of a large pool, 10 to 150 g/(m²·s); absorption k, 10 to 500 hundredths per metre; heat of combustion c,
+-- 100 to 500 tenths of MJ/kg; area a, 100 to 190,000 dm²; method 1 or 2; rim distance d, 1,000 to 200,000 mm; face 1, 2 or 3"
+unfoldable pub fuel-within : Enquiry → Bool
+fuel-within E =
+    not (outside 10 150 (E .rate)) && not (outside 10 500 (E .absorption)) && not (outside 100 500 (E .heat))
+
+-- "16, flame too low, exactly when 4·L.low is under D.high"
+unfoldable pub flame-too-low : Enquiry → Bool
+flame-too-low E = ltb (4 * (flame-height rounded E) .low) ((diameter rounded E) .high)
+
+-- "17, some stage's high end is 2^64 trillionths or more": a pair operation of the chain is refused by 64.
+unfoldable pub stage-too-large : Enquiry → Bool
+stage-too-large E = eqb ((radiant-flux answers E) .number) 64
+
+-- "Low: 1000·q.low as W/m², down; high: 1000·q.high, up. Note 1 for method 1 with low at most 5,000, else 0."
+unfoldable pub low-of : Enquiry → ℕ
+low-of E = down (1000 * (radiant-flux rounded E) .low) U
+
+unfoldable pub high-of : Enquiry → ℕ
+high-of E = up (1000 * (radiant-flux rounded E) .high) U
+
+unfoldable pub note-of : Enquiry → ℕ
+note-of E = elim (eqb (E .method) 1 && leb (low-of E) 5000) [ true ↦ 1 | false ↦ 0 ]
+
+unfoldable pub flux-of : Enquiry → Shown
+flux-of E =
+    refuse (not (fuel-within E)) 11
+    (refuse (outside 100 190_000 (E .area)) 12
+    (refuse (outside 1 2 (E .method)) 13
+    (refuse (outside 1_000 200_000 (E .distance)) 14
+    (refuse (outside 1 3 (E .face)) 15
+    (refuse (flame-too-low E) 16
+    (refuse (stage-too-large E) 17
+    (record { state = 0; low = low-of E; high = high-of E; note = note-of E })))))))

@@ -1,0 +1,55 @@
+// What is asked of the chain, and what it answers.
+use pairs::answer::Pair;
+
+// The whole numbers of one enquiry, in document 01's units.
+pub struct Enquiry {
+    // burning rate m of a large pool, g/(m²·s)
+    pub rate: u16,
+    // absorption k, hundredths per metre
+    pub absorption: u16,
+    // heat of combustion c, tenths of MJ/kg
+    pub heat: u16,
+    // area a, dm²
+    pub area: u32,
+    // 1 (A.11) or 2 (A.12)
+    pub method: u8,
+    // rim distance d, mm
+    pub distance: u32,
+    // 1 vertical, 2 horizontal, 3 worst
+    pub face: u8,
+}
+
+// Low and high in W/m², and the note.
+pub struct Printed {
+    pub low: u32,
+    pub high: u32,
+    pub note: u8,
+}
+
+// Why an enquiry is turned back: 11 to 17 of document 01, in this order.
+pub enum Turned {
+    Fuel,
+    Area,
+    Method,
+    Distance,
+    Face,
+    LowFlame,
+    TooLarge,
+}
+
+pub enum Flux {
+    Is(Printed),
+    Refused(Turned),
+}
+
+// Why a factor is refused: 21, 22 and 23 of document 01, in this order.
+pub enum Outside {
+    Height,
+    Distance,
+    Face,
+}
+
+pub enum Factor {
+    Is(Pair),
+    Refused(Outside),
+}

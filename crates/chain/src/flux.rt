@@ -1,0 +1,119 @@
+// The radiant flux at a target: steps 1 to 8 with their refusals.
+use super::allowed::fuel_within;
+use super::allowed::outside;
+use super::enquiry::Enquiry;
+use super::enquiry::Flux;
+use super::enquiry::Printed;
+use super::enquiry::Turned;
+use super::factor::factor_of;
+use super::lifted::exact;
+use super::lifted::over_of;
+use super::lifted::product_of;
+use super::lifted::quotient_of;
+use super::pool::diameter;
+use super::pool::emissive_power;
+use super::pool::flame_height;
+use super::pool::heat_release;
+use pairs::answer::Answer;
+use pairs::answer::Pair;
+ghost use mathlib.Core.Path.{_≡_};
+ghost use mathlib.Core.Bool.{true, false, _&&_, not};
+ghost use Prim.Native.Nat.{_*_, _≤_};
+ghost use lib.Dec.{eqb, leb};
+ghost use Rattle.pairs.specs.Rounded.{U, down, up, rounded};
+ghost use Rattle.pairs.specs.Figures.{figures, given};
+ghost use Rattle.pairs.specs.Answers.{answers};
+ghost use Rattle.chain.specs.Chain as chain;
+ghost use Rattle.chain.specs.Flux.{outside, fuel-within, flame-too-low, flux-of, shown};
+ghost use Rattle.pairs.specs.Private.{in-order};
+
+// Whether 4·L.low is under D.high.
+fn too_low(e: Enquiry, diameter: Answer, height: Answer) -> bool
+    requires { ⌜ figures diameter ≡ given (chain.diameter rounded e) ⌝ }
+    requires { ⌜ figures height ≡ given (chain.flame-height rounded e) ⌝ }
+    ensures { λ r. ⌜ r ≡ flame-too-low e ⌝ }
+{
+    let Answer::Is(across) = diameter else {
+        return false;
+    };
+    let Answer::Is(up) = height else {
+        return false;
+    };
+    let d = across.high;
+    up.low < d / 4 + (d % 4 + 3) / 4
+}
+
+// 8. q = E·F.
+fn radiant_flux(e: Enquiry, diameter: Answer, heat: Answer, height: Answer) -> Answer
+    requires { ⌜ (figures diameter ≡ chain.diameter answers e) × in-order diameter ⌝ }
+    requires { ⌜ (figures heat ≡ chain.heat-release answers e) × in-order heat ⌝ }
+    requires { ⌜ (figures height ≡ chain.flame-height answers e) × in-order height ⌝ }
+    requires { ⌜ e .distance ≤ 200_000 ⌝ }
+    ensures { λ r. ⌜ (figures r ≡ chain.radiant-flux answers e) × in-order r ⌝ }
+{
+    let face = e.face;
+    let millimetres = e.distance as u64;
+    let radius = over_of(diameter, 2);
+    let l = quotient_of(height, radius);
+    let distance = quotient_of(exact(millimetres * 1_000_000_000), radius);
+    product_of(
+        emissive_power(e, diameter, heat, height),
+        factor_of(face, l, distance),
+    )
+}
+
+// Low and high in whole W/m², and the note.
+fn printed(q: Pair, method: u8) -> Printed
+    requires { ⌜ (q .low ≤ q .high) × (q .high ≤ 740 * U) ⌝ }
+    ensures { λ r. ⌜ (r .low ≡ down (1000 * q .low) U) × (r .high ≡ up (1000 * q .high) U) × (r .note ≡ (elim (eqb method 1 && leb (down (1000 * q .low) U) 5000) [ true ↦ 1 | false ↦ 0 ])) ⌝ }
+{
+    let low = (q.low / 1_000_000_000) as u32;
+    let high = ((q.high + 999_999_999) / 1_000_000_000) as u32;
+    if method == 1 {
+        if low <= 5_000 {
+            return Printed { low, high, note: 1 };
+        }
+    }
+    Printed { low, high, note: 0 }
+}
+
+// The answer to an enquiry within its limits.
+fn flux_within(e: Enquiry) -> Flux
+    requires { ⌜ (not (fuel-within e) ≡ false) × (outside 100 190_000 (e .area) ≡ false) × (outside 1 2 (e .method) ≡ false) × (outside 1_000 200_000 (e .distance) ≡ false) × (outside 1 3 (e .face) ≡ false) ⌝ }
+    ensures { λ r. ⌜ shown r ≡ flux-of e ⌝ }
+{
+    let across = diameter(e);
+    let heat = heat_release(e, across);
+    let height = flame_height(e, across, heat);
+    if too_low(e, across, height) {
+        return Flux::Refused(Turned::LowFlame);
+    }
+    let method = e.method;
+    match radiant_flux(e, across, heat, height) {
+        Answer::Is(q) => Flux::Is(printed(q, method)),
+        // no operation refuses in an accepted chain
+        Answer::Refused(_) => Flux::Refused(Turned::TooLarge),
+    }
+}
+
+// The radiant flux at a target.
+pub fn flux(e: Enquiry) -> Flux
+    ensures { λ r. ⌜ shown r ≡ flux-of e ⌝ }
+{
+    if !fuel_within(e) {
+        return Flux::Refused(Turned::Fuel);
+    }
+    if outside(e.area as u64, 100, 190_000) {
+        return Flux::Refused(Turned::Area);
+    }
+    if outside(e.method as u64, 1, 2) {
+        return Flux::Refused(Turned::Method);
+    }
+    if outside(e.distance as u64, 1_000, 200_000) {
+        return Flux::Refused(Turned::Distance);
+    }
+    if outside(e.face as u64, 1, 3) {
+        return Flux::Refused(Turned::Face);
+    }
+    flux_within(e)
+}

@@ -1,0 +1,48 @@
+-- Demand 3: the exact chain overlaps the rounded one, which is not refused and is narrow for every accepted enquiry; what is
+-- shown is that pair, brought outwards to whole W/m². Assumes nothing.
+use mathlib.Core.Path.{refl}
+use Prim.Native.Nat.{ℕ, _*_}
+use native.Mathlib.Omega.{arith}
+use Rattle.pairs.specs.Rounded.{U, up, down}
+use Rattle.chain.specs.declared.enquiry.Enquiry.{Enquiry}
+use Rattle.chain.specs.Flux.{low-of, high-of}
+use Rattle.chain.proofs.Limits.{Tested, between, accepted-tested}
+use Rattle.chain.proofs.Accepted as chain
+use Rattle.exact.specs.Fraction.{_⊑_, whole, _⊗_}
+use Rattle.exact.specs.Depth.{times}
+use Rattle.exact.specs.Demand.{exact-bracket, Demand-3}
+use Rattle.exact.proofs.Order.{_⟫_, ⊑-refl, ⊗-mono}
+use Rattle.exact.proofs.Overlap.{trillionths}
+use Rattle.exact.proofs.Flux.{Limits, radiant-flux-meets}
+
+-- ---- whole W/m² against trillionths of kW/m²
+watts-down : (a : ℕ) → whole (down (1000 * a) U) ⊑ trillionths a ⊗ whole 1000
+unfolding whole trillionths _⊗_ down
+watts-down a = record { cross = omega arith }
+
+watts-up : (b : ℕ) → trillionths b ⊗ whole 1000 ⊑ whole (up (1000 * b) U)
+unfolding whole trillionths _⊗_ up
+watts-up b = record { cross = omega arith }
+
+limits : {E : Enquiry} → Tested E → Limits E
+limits {E} t =
+    let area = between 100 190_000 (E .area) (t .area) in
+    record {
+      least-area = area .low;
+      most-area = area .high;
+      least-distance = between 1_000 200_000 (E .distance) (t .distance) .low;
+    }
+
+pub demand-3 : Demand-3
+unfolding exact-bracket times low-of high-of
+demand-3 E accepted n deep =
+    let tested = accepted-tested E accepted in
+    let given = chain.accepted E tested .flux-given in
+    let meets = rw given at (radiant-flux-meets E (limits tested) n deep) in
+    let shown = chain.shown E tested in
+    record {
+      divisors-above-0 = meets .sound .defined;
+      low-below = rw shown (watts-down _ ⟫ ⊗-mono (meets .overlap refl .low) ⊑-refl);
+      high-above = rw shown (⊗-mono (meets .overlap refl .high) ⊑-refl ⟫ watts-up _);
+      narrow = rw shown (chain.narrow E accepted .twenty);
+    }

@@ -1,0 +1,17 @@
+-- Order and roots of fractions; overlap kept by each operation; series; steps 1 to 8; demand 3.
+pub mod Order
+pub mod Root
+pub mod Overlap
+pub mod Sound
+pub mod Passing
+pub mod Meets
+pub mod Spans
+pub mod Alternating
+pub mod Arc
+pub mod Exp
+pub mod LnTen
+pub mod Flame
+pub mod Factor
+pub mod Flux
+pub mod Demand3
+pub mod Answered

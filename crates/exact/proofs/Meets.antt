@@ -1,0 +1,115 @@
+-- What the arithmetic of answers gives meets an exact bracket: the bracket is sound, and where the answer is no refusal the
+-- two overlap. Each operation keeps that, so that no side condition of the rounded chain is carried. Assumes nothing.
+use mathlib.Core.Path.{_≡_}
+use Prim.Native.Nat.{ℕ, zero, _*_, _/_, _<_}
+use lib.Dec.{eqb}
+use Rattle.pairs.specs.declared.answer.Pair.{Pair}
+use Rattle.pairs.specs.Figures.{Figures, after}
+use Rattle.pairs.specs.Rounded as rounded
+use Rattle.pairs.specs.Rounded.{U}
+use Rattle.pairs.specs.Answers as answers
+use Rattle.pairs.specs.Answers.{fitting}
+use Rattle.exact.specs.Depth as depth
+use Rattle.exact.specs.Depth.{Bracket}
+use Rattle.exact.proofs.Overlap.{Overlap, low-only, high-only-overlap, constant-overlap, sum-overlap, difference-overlap, product-overlap, quotient-overlap, times-overlap, over-overlap, root-overlap, fifth-root-overlap, larger-overlap}
+use Rattle.exact.proofs.Sound.{Sound, Positive, constant-sound, sum-sound, difference-sound, product-sound, quotient-sound, times-sound, over-sound, root-sound, larger-sound}
+use Rattle.exact.proofs.Passing.{Passing, after-passing, refuse-passing, fitting-passing, not-0}
+
+pub record Meets (f : Figures) (x : Bracket) : Type 0 where
+  pub sound : Sound x
+  pub overlap : f .number ≡ 0 → Overlap (f .pair) x
+
+-- One argument, and two, before a result that may be too large.
+pub after-one : (a : Figures) {p : Pair} {x : Bracket} → (a .number ≡ 0 → Overlap p x) → Passing (λ r. Overlap r x) (after a (fitting p))
+after-one a {p} {x} h = after-passing (λ r. Overlap r x) a (fitting p) (λ u. fitting-passing (λ r. Overlap r x) p (h u))
+
+pub after-two :
+    (a b : Figures) {p : Pair} {x : Bracket} → (a .number ≡ 0 → b .number ≡ 0 → Overlap p x) →
+    Passing (λ r. Overlap r x) (after a (after b (fitting p)))
+after-two a b {p} {x} h = after-passing (λ r. Overlap r x) a (after b (fitting p)) (λ u. after-one b (h u))
+
+pub constant-meets : (n d : ℕ) → zero < d → n * U / d * d ≡ n * U → Meets (answers.constant n d) (depth.constant n d)
+unfolding answers.constant
+constant-meets n d p e =
+    record {
+      sound = constant-sound n d p;
+      overlap = fitting-passing (λ r. Overlap r (depth.constant n d)) (rounded.constant n d) (constant-overlap n d p e);
+    }
+
+module _ {a b : Figures} {x y : Bracket} (h : Meets a x) (k : Meets b y) where
+  pub sum-meets : Meets (answers.sum a b) (depth.sum x y)
+  unfolding answers.sum
+  sum-meets =
+      record { sound = sum-sound (h .sound) (k .sound); overlap = after-two a b (λ u v. sum-overlap (h .overlap u) (k .overlap v)) }
+
+  pub difference-meets : Meets (answers.difference a b) (depth.difference x y)
+  unfolding answers.difference
+  difference-meets =
+      record {
+        sound = difference-sound (h .sound) (k .sound);
+        overlap = after-two a b (λ u v. difference-overlap (h .overlap u) (k .overlap v));
+      }
+
+  pub product-meets : Meets (answers.product a b) (depth.product x y)
+  unfolding answers.product
+  product-meets =
+      record {
+        sound = product-sound (h .sound) (k .sound);
+        overlap = after-two a b (λ u v. product-overlap (h .overlap u) (k .overlap v));
+      }
+
+  pub larger-meets : Meets (answers.larger a b) (depth.larger x y)
+  unfolding answers.larger
+  larger-meets =
+      record {
+        sound = larger-sound (h .sound) (k .sound);
+        overlap = after-two a b (λ u v. larger-overlap (h .overlap u) (k .overlap v));
+      }
+
+  -- A divisor with low end 0 is refused by 62; at depth n it has to be shown that there is none.
+  pub quotient-meets : Positive y → Meets (answers.quotient a b) (depth.quotient x y)
+  unfolding answers.quotient
+  quotient-meets p =
+      record {
+        sound = quotient-sound p (h .sound) (k .sound);
+        overlap =
+            after-passing Q a _
+            (λ u. after-passing Q b _
+            (λ v. refuse-passing Q (eqb (b .pair .low) 0) 61 _
+            (λ t. fitting-passing Q _ (quotient-overlap (not-0 (b .pair .low) t) p (h .overlap u) (k .overlap v)))));
+      }
+    where
+      Q : Pair → Type 0
+      Q r = Overlap r (depth.quotient x y)
+
+module _ {a : Figures} {x : Bracket} (h : Meets a x) where
+  pub times-meets : (n : ℕ) → Meets (answers.times a n) (depth.times x n)
+  unfolding answers.times
+  times-meets n = record { sound = times-sound n (h .sound); overlap = after-one a (λ u. times-overlap n (h .overlap u)) }
+
+  pub over-meets : (n : ℕ) → zero < n → Meets (answers.over a n) (depth.over x n)
+  unfolding answers.over
+  over-meets n p =
+      record {
+        sound = over-sound n p (h .sound);
+        overlap =
+            after-passing Q a _
+            (λ u. refuse-passing Q (eqb n 0) 61 _ (λ _. fitting-passing Q _ (over-overlap n p (h .overlap u))));
+      }
+    where
+      Q : Pair → Type 0
+      Q r = Overlap r (depth.over x n)
+
+  pub root-meets : (n : ℕ) → Meets (answers.root a) (depth.root 2 n x)
+  unfolding answers.root
+  root-meets n = record { sound = root-sound 1 n (h .sound); overlap = after-one a (λ u. root-overlap n (h .overlap u)) }
+
+  pub fifth-root-meets : (n : ℕ) → Meets (answers.fifth-root a) (depth.root 5 n x)
+  unfolding answers.fifth-root
+  fifth-root-meets n =
+      record { sound = root-sound 4 n (h .sound); overlap = after-one a (λ u. fifth-root-overlap n (h .overlap u)) }
+
+  -- A last term counts in the rounded high end alone, and of the exact one the low end is bounded.
+  pub high-only-passing : Passing (λ r. Overlap r (low-only x)) (answers.high-only a)
+  unfolding answers.high-only
+  high-only-passing = after-one a (λ u. high-only-overlap (h .overlap u))

@@ -1,0 +1,120 @@
+// Reads lines, each a name and its numbers, and prints what is answered: the state (0, or the number of the refusal), the two ends, and
+// for an enquiry the note. A line that cannot be read prints `unreadable`.
+mod call;
+mod enquiry;
+mod line;
+
+use call::Reply;
+use call::called;
+use chain::enquiry::Factor;
+use chain::enquiry::Flux;
+use chain::enquiry::Outside;
+use chain::enquiry::Turned;
+use libc::STDIN_FILENO;
+use libc::STDOUT_FILENO;
+use line::numbers_in;
+use line::place_of;
+use pairs::answer::Answer;
+use pairs::answer::Refusal;
+
+// 61 to 64 of document 01.
+fn refusal_number(why: Refusal) -> u64 {
+    match why {
+        Refusal::Disordered => 61,
+        Refusal::ZeroDivisor => 62,
+        Refusal::OutOfSpan => 63,
+        Refusal::TooLarge => 64,
+    }
+}
+
+// 11 to 17 of document 01.
+fn turned_number(why: Turned) -> u64 {
+    match why {
+        Turned::Fuel => 11,
+        Turned::Area => 12,
+        Turned::Method => 13,
+        Turned::Distance => 14,
+        Turned::Face => 15,
+        Turned::LowFlame => 16,
+        Turned::TooLarge => 17,
+    }
+}
+
+// 21 to 23 of document 01.
+fn outside_number(why: Outside) -> u64 {
+    match why {
+        Outside::Height => 21,
+        Outside::Distance => 22,
+        Outside::Face => 23,
+    }
+}
+
+fn print_after_blank(n: u64) {
+    io::write_all(STDOUT_FILENO, b" ");
+    io::print_decimal(STDOUT_FILENO, n);
+}
+
+fn print_pair(state: u64, low: u64, high: u64) {
+    io::print_decimal(STDOUT_FILENO, state);
+    print_after_blank(low);
+    print_after_blank(high);
+}
+
+fn print_operation(a: Answer) {
+    match a {
+        Answer::Is(p) => print_pair(0, p.low, p.high),
+        Answer::Refused(why) => print_pair(refusal_number(why), 0, 0),
+    }
+}
+
+fn print_factor(f: Factor) {
+    match f {
+        Factor::Is(p) => print_pair(0, p.low, p.high),
+        Factor::Refused(why) => print_pair(outside_number(why), 0, 0),
+    }
+}
+
+fn print_flux(f: Flux) {
+    match f {
+        Flux::Is(p) => {
+            print_pair(0, p.low as u64, p.high as u64);
+            print_after_blank(p.note as u64);
+        }
+        Flux::Refused(why) => {
+            print_pair(turned_number(why), 0, 0);
+            print_after_blank(0);
+        }
+    }
+}
+
+fn print_reply(r: Reply) {
+    match r {
+        Reply::Operation(a) => print_operation(a),
+        Reply::Enquiry(f) => print_flux(f),
+        Reply::FactorAlone(f) => print_factor(f),
+        Reply::Unreadable => {
+            io::write_all(STDOUT_FILENO, b"unreadable");
+        }
+    }
+    io::write_all(STDOUT_FILENO, b"\n");
+}
+
+fn answer_line(line: &[u8]) {
+    let end = place_of(line, b' ', 0);
+    print_reply(called(&line[0..end], numbers_in(&line[end..])));
+}
+
+fn answer_lines(text: &[u8]) {
+    let mut at = 0;
+    while at < text.len() {
+        let end = place_of(text, b'\n', at);
+        answer_line(&text[at..end]);
+        at = end + 1;
+    }
+}
+
+fn main() {
+    let mut text = [0u8; 262_144];
+    let n = io::read_full(STDIN_FILENO, &mut text);
+    answer_lines(&text[..n]);
+}
