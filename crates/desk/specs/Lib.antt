@@ -1,0 +1,2 @@
+-- What the contracts of the desk cite.
+pub mod Input

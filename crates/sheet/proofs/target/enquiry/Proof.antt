@@ -1,0 +1,75 @@
+-- `enquiry` meets its contract: each number is read at its own place.
+-- Assumes nothing.
+use Rattle.sheet.specs.Target.{enquiry-at}
+use borrow.Author.Needs.{needs}
+use Rattle.sheet.proofs.target.enquiry.Statement.{statement}
+use Rattle.sheet.proofs.target.enquiry.Tie as tie
+
+two-requires : tie.Need-two-requires
+two-requires c κs = search needs
+
+add-two : tie.Need-add-two
+add-two c = search needs
+
+two-requires-2 : tie.Need-two-requires-2
+two-requires-2 c κs = search needs
+
+add-two-2 : tie.Need-add-two-2
+add-two-2 c = search needs
+
+two-requires-3 : tie.Need-two-requires-3
+two-requires-3 c κs = search needs
+
+four-requires : tie.Need-four-requires
+four-requires c κs = search needs
+
+add-one : tie.Need-add-one
+add-one c = search needs
+
+one-requires : tie.Need-one-requires
+one-requires c κs = search needs
+
+add-four : tie.Need-add-four
+add-four c = search needs
+
+four-requires-2 : tie.Need-four-requires-2
+four-requires-2 c κs = search needs
+
+add-one-2 : tie.Need-add-one-2
+add-one-2 c = search needs
+
+one-requires-2 : tie.Need-one-requires-2
+one-requires-2 c κs = search needs
+
+returns : tie.Need-returns
+unfolding enquiry-at
+returns c =
+    let b = c .before .before in
+    let d = b .before .before in
+    λ j. record {
+      rate = d .before .before .two .ensures j;
+      absorption = d .before .two2 .ensures j;
+      heat = d .two3 .ensures j;
+      area = b .before .four .ensures j;
+      method = b .one .ensures j;
+      distance = c .before .four2 .ensures j;
+      face = c .one2 .ensures j;
+    }
+
+pub enquiry-spec : {M : Type 1} → statement M
+enquiry-spec =
+    tie.close
+    (tie.spec
+    two-requires
+    add-two
+    two-requires-2
+    add-two-2
+    two-requires-3
+    four-requires
+    add-one
+    one-requires
+    add-four
+    four-requires-2
+    add-one-2
+    one-requires-2
+    returns)
