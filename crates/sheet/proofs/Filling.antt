@@ -22,7 +22,9 @@ use Rattle.sheet.specs.Private.{pasted}
 use Rattle.sheet.proofs.Pasting.{store, join, store-after}
 
 -- A state, two numbers of four bytes and a note, one after the other.
-pub ten-written : (d e f : List ℕ) (at : ℕ) (a : Shown) → at + answer-size ≤ length d → e ≡ pasted (set d at (a .state)) (at + 1) (four-bytes (a .low)) → f ≡ pasted e (at + 5) (four-bytes (a .high)) → set f (at + 9) (a .note) ≡ pasted d at (ten-bytes a)
+pub ten-written :
+    (d e f : List ℕ) (at : ℕ) (a : Shown) → at + answer-size ≤ length d → e ≡ pasted (set d at (a .state)) (at + 1) (four-bytes (a .low))
+    → f ≡ pasted e (at + 5) (four-bytes (a .high)) → set f (at + 9) (a .note) ≡ pasted d at (ten-bytes a)
 unfolding four-bytes ten-bytes
 ten-written d e f at a h p q =
     let s : List ℕ = a .state ∷ [] in
@@ -43,7 +45,9 @@ pub none-written : (s d : List ℕ) → d ≡ pasted d 0 (answers s 0)
 unfolding pasted answers
 none-written s d = refl
 
-pub one-more : (s d e f : List ℕ) (i : ℕ) (a : Shown) → answer-size * (i + 1) ≤ length d → e ≡ pasted d 0 (answers s i) → a ≡ shown-of s i → f ≡ pasted e (answer-size * i) (ten-bytes a) → f ≡ pasted d 0 (answers s (i + 1))
+pub one-more :
+    (s d e f : List ℕ) (i : ℕ) (a : Shown) → answer-size * (i + 1) ≤ length d → e ≡ pasted d 0 (answers s i) → a ≡ shown-of s i
+    → f ≡ pasted e (answer-size * i) (ten-bytes a) → f ≡ pasted d 0 (answers s (i + 1))
 unfolding answers
 one-more s d e f i a h p q r =
     let at : answer-size * i ≡ 0 + length (answers s i) = omega (arith, answers-length s i) in

@@ -24,7 +24,9 @@ pub record Alike (o p : Outcome) : Type 0 where
   pub second : p ≡ refused (suc least)
 
 -- A section with room for as many records as it may have.
-roomy : (s : List ℕ) (start size most : ℕ) (rest : Outcome) → start + count-size + size * most ≤ length s → section s start size most rest ≡ refuse (ltb most (two s start)) 2 rest
+roomy :
+    (s : List ℕ) (start size most : ℕ) (rest : Outcome) → start + count-size + size * most ≤ length s
+    → section s start size most rest ≡ refuse (ltb most (two s start)) 2 rest
 unfolding section
 roomy s start size most rest h =
     rw (le-ltb (length s) (start + count-size) (omega arith)) (by-count (ltb most (two s start)) refl)
@@ -37,7 +39,9 @@ by-limit : (b : Bool) (o p : Outcome) → (b ≡ false → Alike o p) → Alike 
 by-limit true o p h = record { least = 1; first = refl; second = refl }
 by-limit false o p h = h refl
 
-sections-alike : (s t : List ℕ) (start size most : ℕ) (o p : Outcome) → start + count-size + size * most ≤ length s → start + count-size + size * most ≤ length t → two s start ≡ two t start → (two s start ≤ most → Alike o p) → Alike (section s start size most o) (section t start size most p)
+sections-alike :
+    (s t : List ℕ) (start size most : ℕ) (o p : Outcome) → start + count-size + size * most ≤ length s → start + count-size + size * most ≤ length t
+    → two s start ≡ two t start → (two s start ≤ most → Alike o p) → Alike (section s start size most o) (section t start size most p)
 sections-alike s t start size most o p h k e a =
     rw (roomy s start size most o h, roomy t start size most p k, ← e)
     (by-limit (ltb most (two s start)) o p (λ l. a (ltb-false most (two s start) l)))

@@ -58,7 +58,9 @@ module _ (s t : List ℕ) (at to size : ℕ) (e : cut s at size ≡ cut t to siz
   first-four : 4 ≤ size → four s at ≡ four t to
   first-four h = cc (add-zero at, add-zero to, same-four 0 (omega arith))
 
-same-enquiry : (s t : List ℕ) (f g p q a b : ℕ) → cut s f fuel-size ≡ cut t g fuel-size → cut s p pool-size ≡ cut t q pool-size → cut s a target-size ≡ cut t b target-size → enquiry-at s f p a ≡ enquiry-at t g q b
+same-enquiry :
+    (s t : List ℕ) (f g p q a b : ℕ) → cut s f fuel-size ≡ cut t g fuel-size → cut s p pool-size ≡ cut t q pool-size
+    → cut s a target-size ≡ cut t b target-size → enquiry-at s f p a ≡ enquiry-at t g q b
 unfolding enquiry-at
 same-enquiry s t f g p q a b u v w =
     λ x. record {
@@ -71,7 +73,9 @@ same-enquiry s t f g p q a b u v w =
       face = same-one s t a b target-size w face-offset (omega arith) x;
     }
 
-same-shown : (s t : List ℕ) (i j : ℕ) → entry-bytes s i ≡ entry-bytes t j → pool-bytes s i ≡ pool-bytes t j → fuel-bytes s i ≡ fuel-bytes t j → shown-of s i ≡ shown-of t j
+same-shown :
+    (s t : List ℕ) (i j : ℕ) → entry-bytes s i ≡ entry-bytes t j → pool-bytes s i ≡ pool-bytes t j → fuel-bytes s i ≡ fuel-bytes t j
+    → shown-of s i ≡ shown-of t j
 unfolding shown-of enquiry-of entry-bytes pool-bytes fuel-bytes
 same-shown s t i j e p f = ap flux-of (same-enquiry s t _ _ _ _ _ _ f p e)
 
@@ -93,11 +97,15 @@ own-place s (suc n) i rest h =
     ]
 
 -- A fill that returns 0 has written its answers.
-by-room : (b : Bool) (s out : List ℕ) (t : ℕ) → either b (untouched 31 out) (written s t out) .number ≡ 0 → either b (untouched 31 out) (written s t out) ≡ written s t out
+by-room :
+    (b : Bool) (s out : List ℕ) (t : ℕ) → either b (untouched 31 out) (written s t out) .number ≡ 0
+    → either b (untouched 31 out) (written s t out) ≡ written s t out
 by-room true s out t e = absurd (omega arith)
 by-room false s out t e = refl
 
-by-state : (n t : ℕ) (s out : List ℕ) → fill-after (record { state = n; fuels = 0; pools = 0; targets = t }) s out .number ≡ 0 → (n ≡ 0) × (fill-after (record { state = n; fuels = 0; pools = 0; targets = t }) s out ≡ written s t out)
+by-state :
+    (n t : ℕ) (s out : List ℕ) → fill-after (record { state = n; fuels = 0; pools = 0; targets = t }) s out .number ≡ 0
+    → (n ≡ 0) × (fill-after (record { state = n; fuels = 0; pools = 0; targets = t }) s out ≡ written s t out)
 unfolding with-room
 by-state zero t s out e = (refl, by-room (ltb (length out) (answer-size * t)) s out t e)
 by-state (suc n) t s out e = absurd (omega arith)
@@ -124,12 +132,16 @@ pub later : (s out : List ℕ) → fill-of s out .number ≡ 0 → drop (answer-
 later s out z = rw (filled s out z) (drop-at (answers s (targets-of s)) _ (answer-size * targets-of s) (answers-length s (targets-of s)))
 
 -- "Then nothing is written."
-kept-room : (b : Bool) (s out : List ℕ) (t n : ℕ) → either b (untouched 31 out) (written s t out) .number ≡ suc n → either b (untouched 31 out) (written s t out) .bytes ≡ out
+kept-room :
+    (b : Bool) (s out : List ℕ) (t n : ℕ) → either b (untouched 31 out) (written s t out) .number ≡ suc n
+    → either b (untouched 31 out) (written s t out) .bytes ≡ out
 unfolding written
 kept-room true s out t n e = refl
 kept-room false s out t n e = absurd (omega arith)
 
-kept-state : (m t : ℕ) (s out : List ℕ) (n : ℕ) → fill-after (record { state = m; fuels = 0; pools = 0; targets = t }) s out .number ≡ suc n → fill-after (record { state = m; fuels = 0; pools = 0; targets = t }) s out .bytes ≡ out
+kept-state :
+    (m t : ℕ) (s out : List ℕ) (n : ℕ) → fill-after (record { state = m; fuels = 0; pools = 0; targets = t }) s out .number ≡ suc n
+    → fill-after (record { state = m; fuels = 0; pools = 0; targets = t }) s out .bytes ≡ out
 unfolding with-room
 kept-state zero t s out n e = kept-room (ltb (length out) (answer-size * t)) s out t n e
 kept-state (suc m) t s out n e = refl

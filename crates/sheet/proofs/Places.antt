@@ -25,6 +25,8 @@ module _ (s : List ℕ) (f p t : ℕ) (k : Sound s f p t) where
   pub fuel-found : (j : ℕ) → j < p → two s (pool-at f j + fuel-index-offset) < f
   fuel-found j h = rw (fuel-read j) (k .fuel-there j h)
 
-  pub target-shown : (i pool fuel : ℕ) → pool ≡ two s (target-at f p i) → fuel ≡ two s (pool-at f pool + fuel-index-offset) → flux-of (enquiry-at s (fuel-at fuel) (pool-at f pool) (target-at f p i)) ≡ shown-of s i
+  pub target-shown :
+      (i pool fuel : ℕ) → pool ≡ two s (target-at f p i) → fuel ≡ two s (pool-at f pool + fuel-index-offset)
+      → flux-of (enquiry-at s (fuel-at fuel) (pool-at f pool) (target-at f p i)) ≡ shown-of s i
   unfolding shown-of enquiry-of
   target-shown i pool fuel e g = rw (g ∙ fuel-read pool, e ∙ pool-read i, k .fuels-are, k .pools-are)

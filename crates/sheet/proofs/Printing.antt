@@ -67,13 +67,17 @@ pub no-lines : (s d : List ℕ) (from : ℕ) → Put d from (lines s 0) d from
 unfolding lines
 no-lines s d from = nothing d from
 
-pub one-line : (s d e f : List ℕ) (from at next i : ℕ) (a : Shown) → Put d from (lines s i) e at → Put e at (line i a) f next → a ≡ shown-of s i → next ≤ length d → Put d from (lines s (i + 1)) f next
+pub one-line :
+    (s d e f : List ℕ) (from at next i : ℕ) (a : Shown) → Put d from (lines s i) e at → Put e at (line i a) f next → a ≡ shown-of s i
+    → next ≤ length d → Put d from (lines s (i + 1)) f next
 unfolding lines
 one-line s d e f from at next i a p q g h =
     rw (add-one i, ← g) (then p q (omega (arith, p .after, q .after)))
 
 -- The first line, and what follows it.
-pub figures-put : (s d e f g : List ℕ) (m n k t : ℕ) → Put d 0 targets-word e m → Put e m (field t line-feed) f n → Put f n (lines s t) g k → k ≤ length d → Put d 0 (figures-text s t) g k
+pub figures-put :
+    (s d e f g : List ℕ) (m n k t : ℕ) → Put d 0 targets-word e m → Put e m (field t line-feed) f n → Put f n (lines s t) g k → k ≤ length d
+    → Put d 0 (figures-text s t) g k
 unfolding figures-text
 figures-put s d e f g m n k t p q r h =
     let w = field t line-feed in
@@ -104,7 +108,9 @@ pub too-short : (s out : List ℕ) → length out < report-room → record { cou
 unfolding report-of
 too-short s out h = rw (lt-ltb (length out) report-room h)
 
-pub printed-whole : (s out last text : List ℕ) (n : ℕ) → report-room ≤ length out → Put out 0 text last n → text ≡ text-of s → record { count = n; bytes = last } ≡ report-of s out
+pub printed-whole :
+    (s out last text : List ℕ) (n : ℕ) → report-room ≤ length out → Put out 0 text last n → text ≡ text-of s
+    → record { count = n; bytes = last } ≡ report-of s out
 unfolding report-of pasted
 printed-whole s out last text n h p e =
     let q : Put out 0 (text-of s) last n = rw e at p in
@@ -113,7 +119,9 @@ printed-whole s out last text n h p e =
     (λ j. record { count = (q .after ∙ past) j; bytes = (q .bytes ∙ ap (λ (k : ℕ). text-of s ++ drop k out) past) j })
 
 -- What was written fits the buffer, since the buffer keeps its length.
-fits-choice : (b : Bool) (text out last : List ℕ) → last ≡ either b (record { count = 0; bytes = out }) (printed text out) .bytes → length last ≡ length out → either b (record { count = 0; bytes = out }) (printed text out) .count ≤ length out
+fits-choice :
+    (b : Bool) (text out last : List ℕ) → last ≡ either b (record { count = 0; bytes = out }) (printed text out) .bytes → length last ≡ length out
+    → either b (record { count = 0; bytes = out }) (printed text out) .count ≤ length out
 fits-choice true text out last e h = omega arith
 fits-choice false text out last e h = omega (arith, ap length e ∙ length-append text (drop (length text) out), length-drop (length text) out)
 

@@ -71,7 +71,9 @@ abbrev pub continued : Section → Outcome → Outcome
 continued (section.Holds n) o = o
 continued (section.Refused why) o = refused (number-of why)
 
-by-tests : (a b c : Bool) (n : ℕ) (o : Outcome) → refuse a 1 (refuse b 2 (refuse c 1 o)) ≡ continued (choose a (section.Refused CutShort) (choose b (section.Refused TooMany) (choose c (section.Refused CutShort) (section.Holds n)))) o
+by-tests :
+    (a b c : Bool) (n : ℕ) (o : Outcome)
+    → refuse a 1 (refuse b 2 (refuse c 1 o)) ≡ continued (choose a (section.Refused CutShort) (choose b (section.Refused TooMany) (choose c (section.Refused CutShort) (section.Holds n)))) o
 by-tests true b c n o = refl
 by-tests false true c n o = refl
 by-tests false false true n o = refl
@@ -82,7 +84,9 @@ unfolding reading.section section-of
 continues s start size most o =
     by-tests (ltb (length s) (start + count-size)) (ltb most (two s start)) (ltb (length s) (start + count-size + size * two s start)) (two s start) o
 
-pub section-refused : (s : List ℕ) (start size most : ℕ) (why : Fault) (o : Outcome) → section-of s start size most ≡ section.Refused why → refused (number-of why) ≡ reading.section s start size most o
+pub section-refused :
+    (s : List ℕ) (start size most : ℕ) (why : Fault) (o : Outcome) → section-of s start size most ≡ section.Refused why
+    → refused (number-of why) ≡ reading.section s start size most o
 section-refused s start size most why o e = sym (continues s start size most o ∙ ap (λ (x : Section). continued x o) e)
 
 pub section-held : (s : List ℕ) (start size most n : ℕ) (o : Outcome) → section-of s start size most ≡ section.Holds n → o ≡ reading.section s start size most o
@@ -94,7 +98,10 @@ pub record Holding (s : List ℕ) (start size most n : ℕ) : Type 0 where
   pub limited : n ≤ most
   pub inside : start + count-size + size * n ≤ length s
 
-all-passed : (a b c : Bool) (m n : ℕ) → choose a (section.Refused CutShort) (choose b (section.Refused TooMany) (choose c (section.Refused CutShort) (section.Holds m))) ≡ section.Holds n → (b ≡ false) × (c ≡ false) × (m ≡ n)
+all-passed :
+    (a b c : Bool) (m n : ℕ)
+    → choose a (section.Refused CutShort) (choose b (section.Refused TooMany) (choose c (section.Refused CutShort) (section.Holds m))) ≡ section.Holds n
+    → (b ≡ false) × (c ≡ false) × (m ≡ n)
 all-passed true b c m n e = absurd (let z : _≡_ {A = ℕ} 0 1 = cc in omega arith)
 all-passed false true c m n e = absurd (let z : _≡_ {A = ℕ} 0 1 = cc in omega arith)
 all-passed false false true m n e = absurd (let z : _≡_ {A = ℕ} 0 1 = cc in omega arith)
@@ -115,7 +122,9 @@ passed : (b : Bool) (k : ℕ) (x o : Outcome) → refuse b (suc k) x ≡ o → o
 passed true k x o e z = let w : suc k ≡ o .state = ap (λ (y : Outcome). y .state) e in absurd (omega arith)
 passed false k x o e z = (refl, e)
 
-section-passed : (s : List ℕ) (start size most : ℕ) (rest o : Outcome) → reading.section s start size most rest ≡ o → o .state ≡ 0 → (two s start ≤ most) × (start + count-size + size * two s start ≤ length s) × (rest ≡ o)
+section-passed :
+    (s : List ℕ) (start size most : ℕ) (rest o : Outcome) → reading.section s start size most rest ≡ o → o .state ≡ 0
+    → (two s start ≤ most) × (start + count-size + size * two s start ≤ length s) × (rest ≡ o)
 unfolding reading.section
 section-passed s start size most rest o e z =
     let p = passed (ltb (length s) (start + count-size)) 0 _ o e z in
@@ -164,11 +173,15 @@ module _ (s : List ℕ) (f p t : ℕ) (fuels-are : f ≡ fuels-of s) (pools-are 
   unfolding after-sections
   fuel-missing h e = simp (le-ltb _ _ (rw (fuels-are, pools-are, targets-are) at h), sym fuels-tested ∙ e)
 
-  pub pool-missing : length s ≤ sheet-end f p t → stray s (pools-start f + count-size + fuel-index-offset) pool-size p f ≡ false → stray s (targets-start f p + count-size) target-size t p ≡ true → refused 5 ≡ after-sections s
+  pub pool-missing :
+      length s ≤ sheet-end f p t → stray s (pools-start f + count-size + fuel-index-offset) pool-size p f ≡ false
+      → stray s (targets-start f p + count-size) target-size t p ≡ true → refused 5 ≡ after-sections s
   unfolding after-sections
   pool-missing h e g = simp (le-ltb _ _ (rw (fuels-are, pools-are, targets-are) at h), sym fuels-tested ∙ e, sym pools-tested ∙ g)
 
-  pub accepted : length s ≤ sheet-end f p t → stray s (pools-start f + count-size + fuel-index-offset) pool-size p f ≡ false → stray s (targets-start f p + count-size) target-size t p ≡ false → record { state = 0; fuels = f; pools = p; targets = t } ≡ after-sections s
+  pub accepted :
+      length s ≤ sheet-end f p t → stray s (pools-start f + count-size + fuel-index-offset) pool-size p f ≡ false
+      → stray s (targets-start f p + count-size) target-size t p ≡ false → record { state = 0; fuels = f; pools = p; targets = t } ≡ after-sections s
   unfolding after-sections
   accepted h e g = simp (le-ltb _ _ (rw (fuels-are, pools-are, targets-are) at h), sym fuels-tested ∙ e, sym pools-tested ∙ g) (λ j. record { state = 0; fuels = fuels-are j; pools = pools-are j; targets = targets-are j })
 
@@ -193,6 +206,8 @@ pub pools-section : (s : List ℕ) (f : ℕ) → f ≡ fuels-of s → reading.se
 unfolding from-pools
 pools-section s f e = rw e
 
-pub targets-section : (s : List ℕ) (f p : ℕ) → f ≡ fuels-of s → p ≡ pools-of s → reading.section s (targets-start f p) target-size most-targets (after-sections s) ≡ from-targets s
+pub targets-section :
+    (s : List ℕ) (f p : ℕ) → f ≡ fuels-of s → p ≡ pools-of s
+    → reading.section s (targets-start f p) target-size most-targets (after-sections s) ≡ from-targets s
 unfolding from-targets
 targets-section s f p e g = rw (e, g)

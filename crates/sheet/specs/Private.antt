@@ -10,7 +10,7 @@ use Rattle.sheet.specs.declared.reading.Fault.the-variants.{CutShort, To
 use Rattle.sheet.specs.declared.reading.Section.{Section}
 use Rattle.sheet.specs.declared.reading.Section.the-variants as section
 use Rattle.sheet.specs.declared.target.Entry.{Entry}
-use Rattle.sheet.specs.Layout.{count-size, sheet-end}
+use Rattle.sheet.specs.Layout.{count-size, most-targets, sheet-end}
 use Rattle.sheet.specs.Bytes.{two}
 use Rattle.sheet.specs.Reading.{some, fuels-of, pools-of, targets-of, fuel-index, pool-index}
 
@@ -34,7 +34,7 @@ pub record Sound (s : List ℕ) (fuels pools targets : ℕ) : Type 0 where
   pub fuels-are : fuels ≡ fuels-of s
   pub pools-are : pools ≡ pools-of s
   pub targets-are : targets ≡ targets-of s
-  pub few : targets ≤ 512
+  pub few : targets ≤ most-targets
   pub whole : sheet-end fuels pools targets ≡ length s
   pub fuel-there : (i : ℕ) → i < pools → fuel-index s i < fuels
   pub pool-there : (i : ℕ) → i < targets → pool-index s i < pools

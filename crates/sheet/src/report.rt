@@ -11,6 +11,7 @@ use super::text::put_word;
 ghost use mathlib.Core.Path.{_≡_};
 ghost use Prim.Native.Nat.{_+_, _*_, _≤_, _<_};
 ghost use lib.ListN.{length};
+ghost use Rattle.sheet.specs.Layout.{most-targets};
 ghost use Rattle.sheet.specs.Reading.{number-of};
 ghost use Rattle.sheet.specs.Report.{line, lines, figures-text, refused-text, line-room, report-room, report-of};
 ghost use Rattle.sheet.specs.Private.{Sound, shown-by, Put};
@@ -20,7 +21,7 @@ pub const ROOM: usize = 17420;
 
 // One target's line.
 fn put_line(out: &mut [u8], at: usize, i: usize, e: Entry) -> usize
-    requires { ⌜ (i < 512) × (at + line-room ≤ length (now out)) ⌝ }
+    requires { ⌜ (i < most-targets) × (at + line-room ≤ length (now out)) ⌝ }
     ensures { λ r. ⌜ Put (now (out .entry)) at (line i (shown-by e)) (now (out .exit)) r × (r ≤ at + line-room) ⌝ }
 {
     let low = e.low;

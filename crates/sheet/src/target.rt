@@ -21,6 +21,7 @@ ghost use mathlib.Core.Path.{_≡_};
 ghost use Prim.Native.Nat.{_+_, _≤_, _<_};
 ghost use lib.ListN.{length};
 ghost use Rattle.chain.specs.Flux.{shown, number-of};
+ghost use Rattle.sheet.specs.Layout.{fuel-size, pool-size, target-size};
 ghost use Rattle.sheet.specs.Target.{enquiry-at, shown-of};
 ghost use Rattle.sheet.specs.Private.{Sound, shown-by};
 
@@ -68,7 +69,7 @@ fn entry_of(f: Flux) -> Entry
 
 // The enquiry whose fuel, pool and target stand at these places.
 fn enquiry(sheet: &[u8], fuel: usize, pool: usize, target: usize) -> Enquiry
-    requires { ⌜ (fuel + 6 ≤ length (now sheet)) × (pool + 7 ≤ length (now sheet)) × (target + 7 ≤ length (now sheet)) ⌝ }
+    requires { ⌜ (fuel + fuel-size ≤ length (now sheet)) × (pool + pool-size ≤ length (now sheet)) × (target + target-size ≤ length (now sheet)) ⌝ }
     ensures { λ r. ⌜ r ≡ enquiry-at (now (sheet .entry)) fuel pool target ⌝ }
 {
     Enquiry {

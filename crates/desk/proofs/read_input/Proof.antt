@@ -17,11 +17,15 @@ abbrev μ-loop : tie.MeasureT-loop
 μ-loop buffer₀ filled₀ buffer filled = length buffer - filled
 
 -- the buffer keeps its length while a part of it is read into
-kept-length : (c : tie.After-read-once Inv-loop μ-loop) → length (putMid (c .before .before .before .loop .filled) (length (c .before .before .before .loop .buffer) - c .before .before .before .loop .filled) (c .before .before .before .loop .buffer) (c .read-once .last .0)) ≡ length (c .before .before .before .before .before .args .buffer .now)
+kept-length :
+    (c : tie.After-read-once Inv-loop μ-loop)
+    → length (putMid (c .before .before .before .loop .filled) (length (c .before .before .before .loop .buffer) - c .before .before .before .loop .filled) (c .before .before .before .loop .buffer) (c .read-once .last .0)) ≡ length (c .before .before .before .before .before .args .buffer .now)
 kept-length c = let l = c .before .before .before .loop in same-len-mid (l .filled) (length (l .buffer) - l .filled) (l .buffer) (c .read-once .last .0) (c .read-once .kept .0) ∙ l .inv .1
 
 -- a piece that came has at least a byte, and fits what was free
-piece-within : (c : tie.After-known-told Inv-loop μ-loop) → (0 < c .before .piece .given .0 .0) × (c .before .piece .given .0 .0 ≤ length (c .before .before .before .before .before .before .before .before .loop .buffer) - c .before .before .before .before .before .before .before .before .loop .filled)
+piece-within :
+    (c : tie.After-known-told Inv-loop μ-loop)
+    → (0 < c .before .piece .given .0 .0) × (c .before .piece .given .0 .0 ≤ length (c .before .before .before .before .before .before .before .before .loop .buffer) - c .before .before .before .before .before .before .before .before .loop .filled)
 piece-within c =
     let l = c .before .before .before .before .before .before .before .before .loop in
     let w = rw (c .before .piece .given .1) at (c .before .before .before .before .before .read-once .ensures) in

@@ -10,7 +10,9 @@ use Rattle.sheet.proofs.report.put_line.Statement.{statement}
 use Rattle.sheet.proofs.report.put_line.Tie as tie
 
 -- each number fits its type
-fields : (c : tie.After-struct-known) → Short (c .before .before .before .before .before .before .before .args .i) (shown-by (c .before .before .before .before .before .before .before .args .e))
+fields :
+    (c : tie.After-struct-known)
+    → Short (c .before .before .before .before .before .before .before .args .i) (shown-by (c .before .before .before .before .before .before .before .args .e))
 fields c =
     let b = c .before .before .before .before .before .before .before in
     let k = c .struct-known .given in
@@ -36,14 +38,32 @@ put-field-requires-3 : tie.Need-put-field-requires-3
 put-field-requires-3 c κs =
     let p₂ = c .before .before .before in
     let p₁ = p₂ .before .before .before .before .before in
-    omega (arith, fields (p₂ .before), p₁ .before .before .before .pre .1, p₁ .put-field .ensures .after, p₁ .put-field .kept .0, p₂ .put-field2 .ensures .after, p₂ .put-field2 .kept .0)
+    omega (
+      arith,
+      fields (p₂ .before),
+      p₁ .before .before .before .pre .1,
+      p₁ .put-field .ensures .after,
+      p₁ .put-field .kept .0,
+      p₂ .put-field2 .ensures .after,
+      p₂ .put-field2 .kept .0,
+    )
 
 put-field-requires-4 : tie.Need-put-field-requires-4
 put-field-requires-4 c κs =
     let p₃ = c .before .before .before in
     let p₂ = p₃ .before .before .before .before in
     let p₁ = p₂ .before .before .before .before .before in
-    omega (arith, fields (p₂ .before), p₁ .before .before .before .pre .1, p₁ .put-field .ensures .after, p₁ .put-field .kept .0, p₂ .put-field2 .ensures .after, p₂ .put-field2 .kept .0, p₃ .put-field3 .ensures .after, p₃ .put-field3 .kept .0)
+    omega (
+      arith,
+      fields (p₂ .before),
+      p₁ .before .before .before .pre .1,
+      p₁ .put-field .ensures .after,
+      p₁ .put-field .kept .0,
+      p₂ .put-field2 .ensures .after,
+      p₂ .put-field2 .kept .0,
+      p₃ .put-field3 .ensures .after,
+      p₃ .put-field3 .kept .0,
+    )
 
 cast-put-field-3 : tie.Need-cast-put-field-3
 cast-put-field-3 c = search needs
@@ -54,7 +74,19 @@ put-field-requires-5 c κs =
     let p₃ = p₄ .before .before .before .before in
     let p₂ = p₃ .before .before .before .before in
     let p₁ = p₂ .before .before .before .before .before in
-    omega (arith, fields (p₂ .before), p₁ .before .before .before .pre .1, p₁ .put-field .ensures .after, p₁ .put-field .kept .0, p₂ .put-field2 .ensures .after, p₂ .put-field2 .kept .0, p₃ .put-field3 .ensures .after, p₃ .put-field3 .kept .0, p₄ .put-field4 .ensures .after, p₄ .put-field4 .kept .0)
+    omega (
+      arith,
+      fields (p₂ .before),
+      p₁ .before .before .before .pre .1,
+      p₁ .put-field .ensures .after,
+      p₁ .put-field .kept .0,
+      p₂ .put-field2 .ensures .after,
+      p₂ .put-field2 .kept .0,
+      p₃ .put-field3 .ensures .after,
+      p₃ .put-field3 .kept .0,
+      p₄ .put-field4 .ensures .after,
+      p₄ .put-field4 .kept .0,
+    )
 
 same-length : tie.Need-same-length
 same-length c = search needs
