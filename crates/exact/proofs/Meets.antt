@@ -9,11 +9,12 @@ use Rattle.pairs.specs.Rounded as rounded
 use Rattle.pairs.specs.Rounded.{U}
 use Rattle.pairs.specs.Answers as answers
 use Rattle.pairs.specs.Answers.{fitting}
+use Rattle.pairs.proofs.Agreement.{above-0}
 use Rattle.exact.specs.Depth as depth
 use Rattle.exact.specs.Depth.{Bracket}
 use Rattle.exact.proofs.Overlap.{Overlap, low-only, high-only-overlap, constant-overlap, sum-overlap, difference-overlap, product-overlap, quotient-overlap, times-overlap, over-overlap, root-overlap, fifth-root-overlap, larger-overlap}
 use Rattle.exact.proofs.Sound.{Sound, Positive, constant-sound, sum-sound, difference-sound, product-sound, quotient-sound, times-sound, over-sound, root-sound, larger-sound}
-use Rattle.exact.proofs.Passing.{Passing, after-passing, refuse-passing, fitting-passing, not-0}
+use Rattle.exact.proofs.Passing.{Passing, after-passing, refuse-passing, fitting-passing}
 
 pub record Meets (f : Figures) (x : Bracket) : Type 0 where
   pub sound : Sound x
@@ -76,7 +77,7 @@ module _ {a b : Figures} {x y : Bracket} (h : Meets a x) (k : Meets b y) where
             after-passing Q a _
             (λ u. after-passing Q b _
             (λ v. refuse-passing Q (eqb (b .pair .low) 0) 61 _
-            (λ t. fitting-passing Q _ (quotient-overlap (not-0 (b .pair .low) t) p (h .overlap u) (k .overlap v)))));
+            (λ t. fitting-passing Q _ (quotient-overlap (above-0 (b .pair .low) t) p (h .overlap u) (k .overlap v)))));
       }
     where
       Q : Pair → Type 0

@@ -2,13 +2,14 @@
 -- Every operation grows or falls in each end, and rounding goes outwards. Assumes nothing.
 use mathlib.Core.Path.{_≡_, sym}
 use Prim.Native.Nat.{ℕ, zero, suc, _+_, _*_, _-_, _/_, _≤_, _<_, zero-le, max}
-use native.Mathlib.Nat.{mul-left-comm, mul-le-mul-right, mul-pos, le-refl, suc-pred-eq-of-pos, div-mul-le-self, mod-lt, div-add-mod', mul-one, one-mul, zero-lt-suc, zero-mul, div-zero, le-of-eq, le-of-lt, lt-of-not-le, max-eq-left, max-eq-right}
+use native.Mathlib.Nat.{mul-left-comm, mul-le-mul-right, mul-pos, le-refl, suc-pred-eq-of-pos, mul-one, one-mul, zero-lt-suc, zero-mul, div-zero, le-of-eq, le-of-lt, lt-of-not-le, max-eq-left, max-eq-right}
 use native.Mathlib.Decide.{decLe}
 use native.Mathlib.Omega.{arith}
 use lib.Dec.{lit<}
 use Rattle.pairs.specs.declared.answer.Pair.{Pair}
 use Rattle.pairs.specs.Rounded as rounded
 use Rattle.pairs.specs.Rounded.{U, up, down, root-down, root-up, fifth-power-up, fifth-power-down}
+use Rattle.pairs.proofs.Rounding.{up-covers, down-within}
 use Rattle.pairs.proofs.Search.{root-down-passes, root-up-passes, fifth-root-down-passes, fifth-root-up-passes}
 use Rattle.exact.specs.Fraction.{Fraction, _⊑_, whole, _⊕_, _⊗_, _⊘_, power}
 use Rattle.exact.specs.Depth as depth
@@ -101,14 +102,6 @@ product-overlap h k =
     record { low = product-down _ _ ⟫ ⊗-mono (h .low) (k .low); high = ⊗-mono (h .high) (k .high) ⟫ product-up _ _ }
 
 -- ---- quotients; native division by 0 gives 0
-up-reaches : (n d : ℕ) → zero < d → n ≤ up n d * d
-unfolding up
-up-reaches n d p = omega (arith, div-add-mod' (n + (d - 1)) d, mod-lt (n + (d - 1)) p)
-
-down-within : (n d : ℕ) → down n d * d ≤ n
-unfolding down
-down-within n d = div-mul-le-self n d
-
 down-by-0 : (n : ℕ) → down n 0 ≡ 0
 unfolding down
 down-by-0 n = div-zero n
@@ -129,7 +122,7 @@ quotient-up a c p =
     record {
       cross =
           rw (suc-pred-eq-of-pos (mul-pos (lit< {n = U} tt) p), mul-left-comm (up (a * U) c) U c)
-          (omega (arith, up-reaches (a * U) c p));
+          (omega (arith, up-covers (a * U) c p));
     }
 
 trillionths-above-0 : {a : ℕ} → zero < a → zero < trillionths a .num
@@ -173,7 +166,7 @@ unfolding trillionths _⊘_ whole
 over-up a n p =
     record {
       cross =
-          rw (suc-pred-eq-of-pos (mul-pos (lit< {n = U} tt) p), mul-left-comm (up a n) U n) (omega (arith, up-reaches a n p));
+          rw (suc-pred-eq-of-pos (mul-pos (lit< {n = U} tt) p), mul-left-comm (up a n) U n) (omega (arith, up-covers a n p));
     }
 
 pub over-overlap : (n : ℕ) → zero < n → {p : Pair} {x : Bracket} → Overlap p x → Overlap (rounded.over p n) (depth.over x n)

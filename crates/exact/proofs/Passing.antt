@@ -25,10 +25,6 @@ pub fitting-passing : (P : Pair → Type 0) (p : Pair) → P p → Passing P (fi
 fitting-passing P p h z = rw (fitting-passed p z) h
 
 -- ---- tests that failed
-pub not-0 : (n : ℕ) → (T (eqb n 0) → ⊥) → zero < n
-not-0 zero h = absurd (h tt)
-not-0 (suc n) h = zero-lt-suc n
-
 pub not-above : {m n : ℕ} → (T (ltb m n) → ⊥) → n ≤ m
 not-above {m} {n} h = elim (decLe n m) [ yes p ↦ p | no p ↦ absurd (h (lt→ltb m n (lt-of-not-le p))) ]
 

@@ -117,7 +117,7 @@ let-through : {a : Figures} {p : Pair} (b : Bool) → Agrees a p → Agrees (aft
 let-through {a} b h =
     one-part (refuse b 63 a) (λ p. p) h (λ z. ap (λ (f : Figures). f .pair) (refuse-passed b 62 a z .1)) (λ z o. o)
 
-above-0 : (n : ℕ) → (T (eqb n 0) → ⊥) → zero < n
+pub above-0 : (n : ℕ) → (T (eqb n 0) → ⊥) → zero < n
 above-0 zero h = absurd (h tt)
 above-0 (suc n) h = zero-lt-suc n
 

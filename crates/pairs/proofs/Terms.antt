@@ -14,7 +14,7 @@ use Rattle.pairs.specs.Answers as A
 use Rattle.pairs.specs.Answers.{answers}
 use Rattle.pairs.specs.Series.{plus-terms, minus-terms, alternating, power, arc-term, arc, exp-term, total, h-of, h-series}
 use Rattle.pairs.proofs.Rounding.{up-least, up-le, down-below-up}
-use Rattle.pairs.proofs.Turned.{fits}
+use Rattle.pairs.proofs.Agreement.{fitting-given}
 
 -- Both ends at most m trillionths.
 pub record Within (m : ℕ) (p : Pair) : Type 0 where
@@ -45,23 +45,23 @@ over-within {p = p} h n z =
 
 pub sum-given : (p q : Pair) → p .high + q .high < 2 ^ 64 → A.sum (given p) (given q) ≡ given (R.sum p q)
 unfolding A.sum R.sum
-sum-given p q h = fits _ h
+sum-given p q h = fitting-given _ h
 
 pub difference-given : (p q : Pair) → p .high < 2 ^ 64 → A.difference (given p) (given q) ≡ given (R.difference p q)
 unfolding A.difference R.difference
-difference-given p q h = fits _ (omega arith)
+difference-given p q h = fitting-given _ (omega arith)
 
 pub high-only-given : (p : Pair) → p .high < 2 ^ 64 → A.high-only (given p) ≡ given (R.high-only p)
 unfolding A.high-only R.high-only
-high-only-given p h = fits _ h
+high-only-given p h = fitting-given _ h
 
 pub product-given : {p q : Pair} → Within U p → Within U q → A.product (given p) (given q) ≡ given (R.product p q)
 unfolding A.product
-product-given h k = fits _ (omega (arith, product-within h k))
+product-given h k = fitting-given _ (omega (arith, product-within h k))
 
 pub over-given : {p : Pair} → Within U p → (n : ℕ) → zero < n → A.over (given p) n ≡ given (R.over p n)
 unfolding A.over
-over-given h n z = rw (ne-eqb n 0 (omega arith)) (fits _ (omega (arith, over-within h n z)))
+over-given h n z = rw (ne-eqb n 0 (omega arith)) (fitting-given _ (omega (arith, over-within h n z)))
 
 -- ---- sums of terms of at most 1
 module _ (t : ℕ → Pair) (small : (j : ℕ) → Within U (t j)) where

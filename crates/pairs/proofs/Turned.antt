@@ -5,12 +5,13 @@ use mathlib.Core.Path.{_≡_, refl, sym}
 use mathlib.Core.Bool.{Bool, true, false}
 use Prim.Native.Nat.{ℕ, zero, _^_, _≤_, _<_}
 use lib.Dec.{ltb, leb, eqb}
-use borrow.Author.Tests.{lt-ltb, le-ltb, le-leb, lt-leb}
+use borrow.Author.Tests.{lt-ltb, le-ltb, le-leb}
 use Rattle.pairs.specs.declared.answer.Pair.{Pair}
 use Rattle.pairs.specs.Rounded as rounded
 use Rattle.pairs.specs.Figures.{Figures, given, refused, refuse, after}
 use Rattle.pairs.specs.Answers as answers
 use Rattle.pairs.specs.Answers.{admitted, fitting}
+use Rattle.pairs.proofs.Agreement.{fitting-given}
 
 pub disordered : (p : Pair) → p .high < p .low → admitted p ≡ refused 61
 unfolding admitted
@@ -23,10 +24,6 @@ ordered p h = rw (le-ltb (p .high) (p .low) h)
 pub too-large : (p : Pair) → 2 ^ 64 ≤ p .high → fitting p ≡ refused 64
 unfolding fitting
 too-large p h = rw (le-leb (2 ^ 64) (p .high) h)
-
-pub fits : (p : Pair) → p .high < 2 ^ 64 → fitting p ≡ given p
-unfolding fitting
-fits p h = rw (lt-leb (2 ^ 64) (p .high) h)
 
 -- what f is, for an operation on p whose divisor is 0 where z says so, and whose result is r
 pub record OnOne (p : Pair) (z : Bool) (r : Pair) (f : Figures) : Type 0 where
@@ -41,7 +38,7 @@ on-one p z r =
       is-61 = λ h. rw (disordered p h);
       is-62 = λ h d. rw (ordered p h, d);
       is-64 = λ h d l. rw (ordered p h, d, too-large (r p) l);
-      is = λ h d l. rw (ordered p h, d, fits (r p) l);
+      is = λ h d l. rw (ordered p h, d, fitting-given (r p) l);
     }
 
 -- the same for an operation on p and q
@@ -62,7 +59,7 @@ on-two p q z r =
       is-61-too = λ h k. rw (ordered p h, disordered q k);
       is-62 = λ h k d. rw (ordered p h, ordered q k, d);
       is-64 = λ h k d l. rw (ordered p h, ordered q k, d, too-large (r p q) l);
-      is = λ h k d l. rw (ordered p h, ordered q k, d, fits (r p q) l);
+      is = λ h k d l. rw (ordered p h, ordered q k, d, fitting-given (r p q) l);
     }
 
 pub sum-turned : (p q : Pair) → OnTwo p q false (rounded.sum p q) (answers.sum-of p q)

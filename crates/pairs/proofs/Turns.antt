@@ -1,7 +1,7 @@
 -- One turn of each series' loop: the ends that it holds are those of the powers and of the sums of terms so far.
 -- Each turn unfolds the definitions once or twice. Assumes nothing.
-use mathlib.Core.Path.{_≡_, refl, ap, ap₂, _∙_}
-use Prim.Native.Nat.{ℕ, zero, suc, _+_, _*_, _-_, _/_, _≤_, _<_}
+use mathlib.Core.Path.{_≡_, refl, sym, ap, ap₂, _∙_}
+use Prim.Native.Nat.{ℕ, zero, suc, _+_, _*_, _-_, _/_, _≤_, _<_, zero-le}
 use native.Mathlib.Nat.{mul-le-mul}
 use native.Mathlib.Numerals.{add-one}
 use native.Mathlib.Omega.{arith}
@@ -12,7 +12,7 @@ use Rattle.pairs.specs.Private.{carried}
 use Rattle.pairs.specs.Series.{plus-terms, minus-terms, alternating, power, arc-term}
 use Rattle.pairs.proofs.product.Parts.{carried-down, carried-up}
 use Rattle.pairs.proofs.Rounding.{up-le}
-use Rattle.pairs.proofs.Terms.{Within, product-within, plus-within, minus-within, power-within}
+use Rattle.pairs.proofs.Terms.{Within, product-within, power-within}
 
 -- A rounded product of numbers of at most 1 is at most 1, by either rounding.
 pub product-down-le : (a c r : ℕ) → a ≤ U → c ≤ U → r ≡ carried 0 (a * c) → r ≤ U
@@ -37,47 +37,81 @@ unfolding R.over R.down
 over-is p r n l h = ap₂ ends l h
 
 -- ---- alternating sums
--- The sums after n plus terms and n minus terms.
-pub record Alternated (term : ℕ → Pair) (n : ℕ) (plus minus : Pair) : Type 0 where
-  pub plus-is : plus ≡ plus-terms rounded term n
-  pub minus-is : minus ≡ minus-terms rounded term n
-  pub plus-small : Within (n * U) plus
-  pub minus-small : Within (n * U) minus
+-- The sum that term j joins: that of the terms j-2, j-4, .. before it.
+unfoldable pub every-second : (ℕ → Pair) → ℕ → Pair
+every-second term zero = ends 0 0
+every-second term (suc zero) = ends 0 0
+every-second term (suc (suc j)) = R.sum (every-second term j) (term j)
+
+even-second : (term : ℕ → Pair) (n : ℕ) → every-second term (2 * n) ≡ plus-terms rounded term n
+unfolding every-second plus-terms R.constant
+even-second term zero = refl
+even-second term (suc n) =
+    let two : 2 * suc n ≡ suc (suc (2 * n)) = omega arith in
+    rw two (ap (λ (p : Pair). R.sum p (term (2 * n))) (even-second term n))
+
+odd-second : (term : ℕ → Pair) (n : ℕ) → every-second term (suc (2 * n)) ≡ minus-terms rounded term n
+unfolding every-second minus-terms R.constant
+odd-second term zero = refl
+odd-second term (suc n) =
+    let two : 2 * suc n ≡ suc (suc (2 * n)) = omega arith in
+    rw two
+    (ap₂ R.sum (odd-second term n) (ap term (sym (add-one (2 * n)))))
+
+-- The two sums after n terms: the one that the next term joins, and the other.
+pub record Alternated (term : ℕ → Pair) (n : ℕ) (sum other : Pair) : Type 0 where
+  pub sum-is : sum ≡ every-second term n
+  pub other-is : other ≡ every-second term (suc n)
+  pub sum-small : Within (n * U) sum
+  pub other-small : Within (suc n * U) other
 
 module _ (term : ℕ → Pair) (small : (j : ℕ) → Within U (term j)) where
-  alternated : (n : ℕ) (plus minus : Pair) → plus ≡ plus-terms rounded term n → minus ≡ minus-terms rounded term n → Alternated term n plus minus
-  alternated n plus minus e f =
+  second-within : (n : ℕ) → Within (n * U) (every-second term n)
+  unfolding every-second R.sum
+  second-within zero = record { low = zero-le; high = zero-le }
+  second-within (suc zero) = record { low = zero-le; high = zero-le }
+  second-within (suc (suc n)) = omega (arith, second-within n, small n)
+
+  alternated : (n : ℕ) (sum other : Pair) → sum ≡ every-second term n → other ≡ every-second term (suc n) → Alternated term n sum other
+  alternated n sum other e f =
       record {
-        plus-is = e;
-        minus-is = f;
-        plus-small = rw e (plus-within term small n);
-        minus-small = rw f (minus-within term small n);
+        sum-is = e;
+        other-is = f;
+        sum-small = rw e (second-within n);
+        other-small = rw f (second-within (suc n));
       }
 
   pub alternated-none : Alternated term 0 (ends 0 0) (ends 0 0)
-  unfolding plus-terms minus-terms R.constant
+  unfolding every-second
   alternated-none = alternated 0 (ends 0 0) (ends 0 0) refl refl
 
+  -- A term joins its sum, and the two change places.
   pub alternated-more :
-      (n : ℕ) (plus minus a b : Pair) → Alternated term n plus minus → a ≡ term (2 * n) → b ≡ term (2 * n + 1)
-      → Alternated term (n + 1) (ends (plus .low + a .low) (plus .high + a .high)) (ends (minus .low + b .low) (minus .high + b .high))
-  unfolding plus-terms minus-terms R.sum
-  alternated-more n plus minus a b s e f =
-      rw add-one (alternated (suc n) _ _ (ap₂ R.sum (s .plus-is) e) (ap₂ R.sum (s .minus-is) f))
+      (n : ℕ) (sum other a : Pair) → Alternated term n sum other → a ≡ term n
+      → Alternated term (n + 1) other (ends (sum .low + a .low) (sum .high + a .high))
+  unfolding every-second R.sum
+  alternated-more n sum other a s e =
+      rw add-one (alternated (suc n) other _ (s .other-is) (ap₂ R.sum (s .sum-is) e))
 
--- The ends of the series from the sums of eight and eight terms and the seventeenth.
+-- The ends of the series from the sums of sixteen terms and the seventeenth.
 pub alternated-all :
-    (term : ℕ → Pair) (plus minus r : Pair) (last : ℕ) → Alternated term 8 plus minus → last ≡ (term 16) .high
-    → r .low ≡ plus .low - minus .high → r .high ≡ plus .high + last - minus .low → r ≡ alternating rounded term
+    (term : ℕ → Pair) (sum other r : Pair) (last : ℕ) → Alternated term 16 sum other → last ≡ (term 16) .high
+    → r .low ≡ sum .low - other .high → r .high ≡ sum .high + last - other .low → r ≡ alternating rounded term
 unfolding alternating R.sum R.difference R.high-only
-alternated-all term plus minus r last s e l h =
+alternated-all term sum other r last s e l h =
     ap₂ ends (l ∙ first) (h ∙ second)
   where
-    first : plus .low - minus .high ≡ (plus-terms rounded term 8) .low + 0 - (minus-terms rounded term 8) .high
-    first = omega (arith, ap (λ (p : Pair). p .low) (s .plus-is), ap (λ (p : Pair). p .high) (s .minus-is))
+    plus : sum ≡ plus-terms rounded term 8
+    plus = s .sum-is ∙ even-second term 8
 
-    second : plus .high + last - minus .low ≡ (plus-terms rounded term 8) .high + (term 16) .high - (minus-terms rounded term 8) .low
-    second = omega (arith, e, ap (λ (p : Pair). p .high) (s .plus-is), ap (λ (p : Pair). p .low) (s .minus-is))
+    minus : other ≡ minus-terms rounded term 8
+    minus = s .other-is ∙ odd-second term 8
+
+    first : sum .low - other .high ≡ (plus-terms rounded term 8) .low + 0 - (minus-terms rounded term 8) .high
+    first = omega (arith, ap (λ (p : Pair). p .low) plus, ap (λ (p : Pair). p .high) minus)
+
+    second : sum .high + last - other .low ≡ (plus-terms rounded term 8) .high + (term 16) .high - (minus-terms rounded term 8) .low
+    second = omega (arith, e, ap (λ (p : Pair). p .high) plus, ap (λ (p : Pair). p .low) minus)
 
 -- ---- powers and the arc's terms
 pub record Powered (t square : Pair) (j : ℕ) (p : Pair) : Type 0 where

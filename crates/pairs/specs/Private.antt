@@ -1,5 +1,8 @@
 -- Vocabulary of private functions' contracts. No public contract uses it.
-use Prim.Native.Nat.{ℕ, _+_, _*_, _/_, _≤_, _<_}
+use Prim.Native.Nat.{ℕ, suc, _+_, _*_, _/_, _≤_, _<_}
+use mathlib.Core.Bool.{Bool, true, _&&_}
+use mathlib.Core.List.{List, [], _∷_}
+use lib.Dec.{leb, ltb}
 use Rattle.pairs.specs.declared.answer.Answer.{Answer}
 use Rattle.pairs.specs.Rounded.{U}
 use Rattle.pairs.specs.Figures.{figures}
@@ -22,3 +25,15 @@ pub record Brackets (extra t lower upper : ℕ) : Type 0 where
 -- The pair of an answer has its low end at most its high end; the [0, 0] of a refusal has.
 abbrev pub in-order : Answer → Type 0
 in-order a = (figures a) .pair .low ≤ (figures a) .pair .high
+
+-- "row i for i from 256 to 1,023 holding the whole part of the root of 65,536·i": row² ≤ 65,536·i < (row + 1)².
+unfoldable pub square-rule : ℕ → ℕ → Bool
+square-rule i row = leb (row * row) (65_536 * i) && ltb (65_536 * i) ((row + 1) * (row + 1))
+
+-- The rule at every row, the first counted i.
+unfoldable pub every-row : ℕ → List ℕ → Bool
+every-row i [] = true
+every-row i (row ∷ rows) = square-rule i row && every-row (suc i) rows
+
+abbrev pub obeys : List ℕ → Bool
+obeys rows = every-row 256 rows

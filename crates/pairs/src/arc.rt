@@ -24,24 +24,25 @@ fn alternating_arc(t: Pair) -> Pair
     let square_high = fraction(t.high, t.high, ROUND_UP);
     let mut power_low = t.low;
     let mut power_high = t.high;
-    let mut plus_low: u64 = 0;
-    let mut plus_high: u64 = 0;
-    let mut minus_low: u64 = 0;
-    let mut minus_high: u64 = 0;
-    for n in 0..8u64 {
-        plus_low += power_low / (4 * n + 1);
-        plus_high += divided_up(power_high, 4 * n + 1);
-        power_low = fraction(power_low, square_low, 0);
-        power_high = fraction(power_high, square_high, ROUND_UP);
-        minus_low += power_low / (4 * n + 3);
-        minus_high += divided_up(power_high, 4 * n + 3);
+    // the sum that the next term joins, and the other: they change places at each term
+    let mut sum_low: u64 = 0;
+    let mut sum_high: u64 = 0;
+    let mut other_low: u64 = 0;
+    let mut other_high: u64 = 0;
+    for n in 0..16u64 {
+        let more_low = sum_low + power_low / (2 * n + 1);
+        let more_high = sum_high + divided_up(power_high, 2 * n + 1);
+        sum_low = other_low;
+        sum_high = other_high;
+        other_low = more_low;
+        other_high = more_high;
         power_low = fraction(power_low, square_low, 0);
         power_high = fraction(power_high, square_high, ROUND_UP);
     }
     let last = divided_up(power_high, 33);
     Pair {
-        low: less(plus_low, minus_high),
-        high: less(plus_high + last, minus_low),
+        low: less(sum_low, other_high),
+        high: less(sum_high + last, other_low),
     }
 }
 

@@ -26,23 +26,24 @@ fn alternating_exp(z: Pair) -> Pair
     let z_high = z.high;
     let mut term_low = UNIT;
     let mut term_high = UNIT;
-    let mut plus_low: u64 = 0;
-    let mut plus_high: u64 = 0;
-    let mut minus_low: u64 = 0;
-    let mut minus_high: u64 = 0;
-    for n in 0..8u64 {
-        plus_low += term_low;
-        plus_high += term_high;
-        term_low = fraction(term_low, z_low, 0) / (2 * n + 1);
-        term_high = divided_up(fraction(term_high, z_high, ROUND_UP), 2 * n + 1);
-        minus_low += term_low;
-        minus_high += term_high;
-        term_low = fraction(term_low, z_low, 0) / (2 * n + 2);
-        term_high = divided_up(fraction(term_high, z_high, ROUND_UP), 2 * n + 2);
+    // the sum that the next term joins, and the other: they change places at each term
+    let mut sum_low: u64 = 0;
+    let mut sum_high: u64 = 0;
+    let mut other_low: u64 = 0;
+    let mut other_high: u64 = 0;
+    for n in 0..16u64 {
+        let more_low = sum_low + term_low;
+        let more_high = sum_high + term_high;
+        sum_low = other_low;
+        sum_high = other_high;
+        other_low = more_low;
+        other_high = more_high;
+        term_low = fraction(term_low, z_low, 0) / (n + 1);
+        term_high = divided_up(fraction(term_high, z_high, ROUND_UP), n + 1);
     }
     Pair {
-        low: less(plus_low, minus_high),
-        high: less(plus_high + term_high, minus_low),
+        low: less(sum_low, other_high),
+        high: less(sum_high + term_high, other_low),
     }
 }
 

@@ -14,6 +14,9 @@ ghost use Prim.Native.Nat.{_+_, _*_, _/_, _^_, _≤_, _<_};
 ghost use Rattle.pairs.specs.Rounded.{U, root-down, root-up};
 ghost use Rattle.pairs.specs.Figures.{figures};
 ghost use Rattle.pairs.specs.Answers.{root-of};
+ghost use lib.Dec.{T};
+ghost use lib.ListN.{length};
+ghost use Rattle.pairs.specs.Private.{obeys};
 
 // Row i, for i from 256 to 1,023, is the whole part of the root of 65,536·i.
 const ROWS: [u16; 768] = [
@@ -787,12 +790,20 @@ const ROWS: [u16; 768] = [
     8187,
 ];
 
+// Each row obeys the square rule.
+fn rows() -> [u16; 768]
+    ensures { λ r. ⌜ (length r ≡ 768) × T (obeys r) ⌝ }
+{
+    ROWS
+}
+
 // The row of i.
 fn row(i: u64) -> u64
     requires { ⌜ (256 ≤ i) × (i < 1024) ⌝ }
     ensures { λ r. ⌜ (r * r ≤ 65_536 * i) × (65_536 * i < (r + 1) * (r + 1)) ⌝ }
 {
-    ROWS[(i - 256) as usize] as u64
+    let table = rows();
+    table[(i - 256) as usize] as u64
 }
 
 // Near the root of a word whose two upper bits are not both 0: the row of its ten upper bits, and two of Newton's steps.

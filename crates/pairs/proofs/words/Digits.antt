@@ -81,6 +81,12 @@ two-digits h x1 x0 d q1 r1 q0 r0 e f s = quotient-is (h * 2 ^ 64 + (x1 * B + x0)
 pub scaled-high : (h l b : ℕ) → h * 2 ^ 64 + l ≡ b * 1_000_000_000_000 → b < 2 ^ 64 → h < 2 ^ 40
 scaled-high h l b e f = omega arith
 
+-- nor are both words of b·U 0
+pub scaled-above-0 : (h l b : ℕ) → (b ≡ zero → ⊥) → h * 2 ^ 64 + l ≡ b * 1_000_000_000_000 → zero < h + l
+scaled-above-0 zero zero b z e = omega arith
+scaled-above-0 zero (suc l) b z e = omega arith
+scaled-above-0 (suc h) l b z e = omega arith
+
 -- a number whose highest set bit is bit j, times the power that makes 63 with j
 raised : (d j s : ℕ) → s + suc j ≡ 64 → 2 ^ j ≤ d → d < 2 ^ suc j → (2 ^ 63 ≤ d * 2 ^ s) × (d * 2 ^ s < 2 ^ 64)
 raised d j s e lo hi =

@@ -1,8 +1,8 @@
--- `alternating_exp` meets its contract: the loop holds the term 2n and the sums of n plus and n minus terms.
+-- `alternating_exp` meets its contract: the loop holds the term n and the sums of n terms, which change places at each term.
 -- Every term is at most 1 and every sum at most n, so nothing wraps. Assumes nothing.
 use mathlib.Core.Path.{_≡_, refl, ap, _∙_}
 use Prim.Native.Nat.{ℕ, suc, _+_, _*_, _-_, _/_, _≤_}
-use native.Mathlib.Nat.{div-le-self}
+use native.Mathlib.Numerals.{add-one}
 use native.Mathlib.Omega.{arith}
 use Rattle.pairs.specs.declared.answer.Pair.{Pair}
 use Rattle.pairs.specs.Rounded as R
@@ -10,82 +10,68 @@ use Rattle.pairs.specs.Rounded.{U, rounded, ends, up}
 use Rattle.pairs.specs.Private.{carried}
 use Rattle.pairs.specs.Series.{alternating, exp-term}
 use Rattle.pairs.proofs.Terms.{Within, exp-term-within}
-use Rattle.pairs.proofs.Turns.{Alternated, alternated-none, alternated-more, alternated-all, product-is, over-is, product-down-le, product-up-le, divided-up-le}
+use Rattle.pairs.proofs.Turns.{Alternated, alternated-none, alternated-more, alternated-all, product-is, over-is}
 use borrow.Author.Needs.{needs}
 use Rattle.pairs.proofs.exp_neg.alternating_exp.Statement.{statement}
 use Rattle.pairs.proofs.exp_neg.alternating_exp.Tie as tie
 
 -- After n turns.
-record Summed (z term plus minus : Pair) (n : ℕ) : Type 0 where
+record Summed (z term sum other : Pair) (n : ℕ) : Type 0 where
   small : Within U z
-  term-is : term ≡ exp-term rounded z (2 * n)
+  term-is : term ≡ exp-term rounded z n
   term-small : Within U term
-  sums : Alternated (exp-term rounded z) n plus minus
+  sums : Alternated (exp-term rounded z) n sum other
 
 none : (z : Pair) → Within U z → Summed z (ends U U) (ends 0 0) (ends 0 0) 0
 unfolding exp-term R.constant
 none z w = record { small = w; term-is = refl; term-small = omega arith; sums = alternated-none _ (exp-term-within z w) }
 
-next-term :
-    (z term : Pair) (j k fl fh rh : ℕ) → term ≡ exp-term rounded z j → k ≡ suc j → fl ≡ carried 0 (term .low * z .low)
-    → fh ≡ carried 999_999 (term .high * z .high) → rh ≡ up fh k → ends (fl / k) rh ≡ exp-term rounded z k
-unfolding exp-term
-next-term z term j k fl fh rh s e l h u =
-    over-is (ends fl fh) (ends (fl / k) rh) k refl u
-    ∙ ap (λ (p : Pair). R.over p k) (product-is term z (ends fl fh) l h ∙ ap (λ (p : Pair). R.product p z) s)
-    ∙ rw e
-
--- One turn: the term is added, and the next taken, and the one after it comes.
+-- One turn: the term joins its sum, and the next comes.
 again :
-    {z term plus minus : Pair} {n : ℕ} (fl fh ah gl gh bh : ℕ) → Summed z term plus minus n → fl ≡ carried 0 (term .low * z .low)
-    → fh ≡ carried 999_999 (term .high * z .high) → ah ≡ up fh (2 * n + 1) → gl ≡ carried 0 (fl / (2 * n + 1) * z .low)
-    → gh ≡ carried 999_999 (ah * z .high) → bh ≡ up gh (2 * n + 2)
-    → Summed z (ends (gl / (2 * n + 2)) bh) (ends (plus .low + term .low) (plus .high + term .high))
-    (ends (minus .low + fl / (2 * n + 1)) (minus .high + ah)) (n + 1)
-again {z} {term} {plus} {minus} {n} fl fh ah gl gh bh s l h a l' h' b =
+    {z term sum other : Pair} {n : ℕ} (fl fh nh : ℕ) → Summed z term sum other n → fl ≡ carried 0 (term .low * z .low)
+    → fh ≡ carried 999_999 (term .high * z .high) → nh ≡ up fh (n + 1)
+    → Summed z (ends (fl / (n + 1)) nh) other (ends (sum .low + term .low) (sum .high + term .high)) (n + 1)
+unfolding exp-term
+again {z} {term} {sum} {other} {n} fl fh nh s l h u =
     let w = s .small in
-    let middle : ends (fl / (2 * n + 1)) ah ≡ exp-term rounded z (2 * n + 1) =
-    next-term z term (2 * n) (2 * n + 1) fl fh ah (s .term-is) (omega arith) l h a in
-    let last : ends (gl / (2 * n + 2)) bh ≡ exp-term rounded z (2 * n + 2) =
-    next-term z (ends (fl / (2 * n + 1)) ah) (2 * n + 1) (2 * n + 2) gl gh bh middle (omega arith) l' h' b in
-    let twice : 2 * (n + 1) ≡ 2 * n + 2 = omega arith in
+    let next : ends (fl / (n + 1)) nh ≡ exp-term rounded z (n + 1) =
+    over-is (ends fl fh) (ends (fl / (n + 1)) nh) (n + 1) refl u
+    ∙ ap (λ (p : Pair). R.over p (n + 1)) (product-is term z (ends fl fh) l h ∙ ap (λ (p : Pair). R.product p z) (s .term-is))
+    ∙ rw add-one in
     record {
       small = w;
-      term-is = rw twice last;
-      term-small = rw last (exp-term-within z w (2 * n + 2));
-      sums = alternated-more _ (exp-term-within z w) n plus minus term (ends (fl / (2 * n + 1)) ah) (s .sums) (s .term-is) middle;
+      term-is = next;
+      term-small = rw next (exp-term-within z w (n + 1));
+      sums = alternated-more _ (exp-term-within z w) n sum other term (s .sums) (s .term-is);
     }
 
--- The ends from eight turns and the seventeenth term.
+-- The ends from sixteen turns and the seventeenth term.
 all :
-    {z term plus minus : Pair} {n : ℕ} (l h : ℕ) → Summed z term plus minus n → n ≡ 8 → l ≡ plus .low - minus .high
-    → h ≡ plus .high + term .high - minus .low → ends l h ≡ alternating rounded (exp-term rounded z)
-all {z} {term} {plus} {minus} {n} l h s e g k =
-    alternated-all (exp-term rounded z) plus minus (ends l h) (term .high) (rw e at (s .sums)) (ap (λ (p : Pair). p .high) (rw e at (s .term-is))) g k
+    {z term sum other : Pair} {n : ℕ} (l h : ℕ) → Summed z term sum other n → n ≡ 16 → l ≡ sum .low - other .high
+    → h ≡ sum .high + term .high - other .low → ends l h ≡ alternating rounded (exp-term rounded z)
+all {z} {term} {sum} {other} {n} l h s e g k =
+    alternated-all (exp-term rounded z) sum other (ends l h) (term .high) (rw e at (s .sums)) (ap (λ (p : Pair). p .high) (rw e at (s .term-is))) g k
 
 abbrev Inv-loop : tie.InvT-loop
-Inv-loop z-low z-high term-low₀ term-high₀ plus-low₀ plus-high₀ minus-low₀ minus-high₀ n₀ term-low term-high plus-low plus-high minus-low minus-high n =
-    (n ≤ 8)
-    × Summed (ends z-low z-high) (ends term-low term-high) (ends plus-low plus-high) (ends minus-low minus-high) n
+Inv-loop z-low z-high term-low₀ term-high₀ sum-low₀ sum-high₀ other-low₀ other-high₀ n₀ term-low term-high sum-low sum-high other-low other-high n =
+    (n ≤ 16)
+    × Summed (ends z-low z-high) (ends term-low term-high) (ends sum-low sum-high) (ends other-low other-high) n
 
 abbrev μ-loop : tie.MeasureT-loop
-μ-loop z-low z-high term-low₀ term-high₀ plus-low₀ plus-high₀ minus-low₀ minus-high₀ n₀ term-low term-high plus-low plus-high minus-low minus-high n =
-    8 - n
+μ-loop z-low z-high term-low₀ term-high₀ sum-low₀ sum-high₀ other-low₀ other-high₀ n₀ term-low term-high sum-low sum-high other-low other-high n =
+    16 - n
 
 loop-holds : tie.Need-loop-holds Inv-loop μ-loop
 loop-holds c = (omega arith, none _ (omega arith))
 
-add-plus-low : tie.Need-add-plus-low Inv-loop μ-loop
-add-plus-low c = omega arith
+add-more-low : tie.Need-add-more-low Inv-loop μ-loop
+add-more-low c = omega arith
 
-add-plus-high : tie.Need-add-plus-high Inv-loop μ-loop
-add-plus-high c = omega arith
+add-more-high : tie.Need-add-more-high Inv-loop μ-loop
+add-more-high c = omega arith
 
 fraction-requires : tie.Need-fraction-requires Inv-loop μ-loop
 fraction-requires c κs = omega arith
-
-mul-term-low : tie.Need-mul-term-low Inv-loop μ-loop
-mul-term-low c = omega arith
 
 add-term-low : tie.Need-add-term-low Inv-loop μ-loop
 add-term-low c = omega arith
@@ -96,46 +82,11 @@ div-term-low c = omega arith
 fraction-requires-2 : tie.Need-fraction-requires-2 Inv-loop μ-loop
 fraction-requires-2 c κs = omega arith
 
-mul-divided-up : tie.Need-mul-divided-up Inv-loop μ-loop
-mul-divided-up c = omega arith
-
 add-divided-up : tie.Need-add-divided-up Inv-loop μ-loop
 add-divided-up c = omega arith
 
 divided-up-requires : tie.Need-divided-up-requires Inv-loop μ-loop
 divided-up-requires c κs = omega arith
-
-add-minus-low : tie.Need-add-minus-low Inv-loop μ-loop
-add-minus-low c = let l = c .before .before .before .before .loop in
-    omega (arith, div-le-self (c .before .before .fraction .result) (2 * l .n + 1), product-down-le _ _ _ (omega arith) (omega arith) (c .before .before .fraction .ensures))
-
-add-minus-high : tie.Need-add-minus-high Inv-loop μ-loop
-add-minus-high c = omega (arith, divided-up-le _ _ _ (omega arith) (c .divided-up .ensures), product-up-le _ _ _ (omega arith) (omega arith) (c .before .fraction2 .ensures))
-
-fraction-requires-3 : tie.Need-fraction-requires-3 Inv-loop μ-loop
-fraction-requires-3 c κs = let l = c .before .before .before .before .loop in
-    omega (arith, div-le-self (c .before .before .fraction .result) (2 * l .n + 1), product-down-le _ _ _ (omega arith) (omega arith) (c .before .before .fraction .ensures))
-
-mul-term-low-2 : tie.Need-mul-term-low-2 Inv-loop μ-loop
-mul-term-low-2 c = omega arith
-
-add-term-low-2 : tie.Need-add-term-low-2 Inv-loop μ-loop
-add-term-low-2 c = omega arith
-
-div-term-low-2 : tie.Need-div-term-low-2 Inv-loop μ-loop
-div-term-low-2 c = omega arith
-
-fraction-requires-4 : tie.Need-fraction-requires-4 Inv-loop μ-loop
-fraction-requires-4 c κs = omega (arith, divided-up-le _ _ _ (omega arith) (c .before .divided-up .ensures), product-up-le _ _ _ (omega arith) (omega arith) (c .before .before .fraction2 .ensures))
-
-mul-divided-up-2 : tie.Need-mul-divided-up-2 Inv-loop μ-loop
-mul-divided-up-2 c = omega arith
-
-add-divided-up-2 : tie.Need-add-divided-up-2 Inv-loop μ-loop
-add-divided-up-2 c = omega arith
-
-divided-up-requires-2 : tie.Need-divided-up-requires-2 Inv-loop μ-loop
-divided-up-requires-2 c κs = omega arith
 
 add-n : tie.Need-add-n Inv-loop μ-loop
 add-n c = omega arith
@@ -144,11 +95,10 @@ loop-less : tie.Need-loop-less Inv-loop μ-loop
 loop-less c = omega arith
 
 loop-again : tie.Need-loop-again Inv-loop μ-loop
-loop-again c = let d = c .before .before .before in (
+loop-again c = (
   omega arith,
-  again _ _ _ _ _ _ (d .before .before .before .before .loop .inv .1) (d .before .before .fraction .ensures)
-      (d .before .fraction2 .ensures) (d .divided-up .ensures)
-      (c .before .before .fraction3 .ensures) (c .before .fraction4 .ensures) (c .divided-up2 .ensures),
+  again _ _ _ (c .before .before .before .before .loop .inv .1) (c .before .before .fraction .ensures) (c .before .fraction2 .ensures)
+      (c .divided-up .ensures),
 )
 
 less-requires : tie.Need-less-requires Inv-loop μ-loop
@@ -170,26 +120,14 @@ alternating-exp-spec =
     Inv-loop
     μ-loop
     loop-holds
-    add-plus-low
-    add-plus-high
+    add-more-low
+    add-more-high
     fraction-requires
-    mul-term-low
     add-term-low
     div-term-low
     fraction-requires-2
-    mul-divided-up
     add-divided-up
     divided-up-requires
-    add-minus-low
-    add-minus-high
-    fraction-requires-3
-    mul-term-low-2
-    add-term-low-2
-    div-term-low-2
-    fraction-requires-4
-    mul-divided-up-2
-    add-divided-up-2
-    divided-up-requires-2
     add-n
     loop-less
     loop-again

@@ -14,8 +14,8 @@ use Rattle.pairs.specs.Answers as A
 use Rattle.pairs.specs.Answers.{answers, admitted, exp-neg-of}
 use Rattle.pairs.specs.Series.{alternating, exp-term, squared, exp-neg}
 use Rattle.pairs.proofs.Kept.{alternating-kept, exp-term-kept}
-use Rattle.pairs.proofs.Agreement.{agreement, admitted-agrees}
-use Rattle.pairs.proofs.Turned.{ordered, fits}
+use Rattle.pairs.proofs.Agreement.{agreement, admitted-agrees, fitting-given}
+use Rattle.pairs.proofs.Turned.{ordered}
 use Rattle.pairs.proofs.Terms.{Within, exp-given}
 use Rattle.pairs.proofs.Turns.{over-is}
 use Rattle.pairs.proofs.Refusals.{exp-61, exp-63}
@@ -40,7 +40,7 @@ module _ (y : Pair) (high : ℕ) (o : y .low ≤ y .high) (small : y .high < 256
   unfolding A.below-256 A.over
   over-256 =
       let e : z ≡ R.over y 256 = over-is y z 256 refl h in
-      rw (ordered y o, lt-leb (256 * U) (y .high) small, ← e) (fits z (omega (arith, within)))
+      rw (ordered y o, lt-leb (256 * U) (y .high) small, ← e) (fitting-given z (omega (arith, within)))
 
   module _ (r : Pair) (e : r ≡ alternating rounded (exp-term rounded z)) where
     series-is : given r ≡ alternating answers (exp-term answers (admitted z))

@@ -7,18 +7,13 @@ use native.Mathlib.Decide.{decLt}
 use native.Mathlib.Omega.{arith}
 use Rattle.pairs.specs.Rounded.{U, root-down, root-up}
 use Rattle.pairs.proofs.Search.{root-down-passes, root-down-next, root-up-is, root-up-bound}
-use Rattle.pairs.proofs.words.Digits.{scaled-high}
+use Rattle.pairs.proofs.words.Digits.{scaled-high, scaled-above-0}
 use borrow.Author.Needs.{needs}
 use Rattle.pairs.proofs.root.root_up_of.Statement.{statement}
 use Rattle.pairs.proofs.root.root_up_of.Tie as tie
 
 none : (b : ℕ) → b ≡ zero → 0 ≡ root-up (b * U)
 none b e = rw (e, zero-mul) (let k : root-up 0 ≤ 0 = root-up-bound 0 0 (omega arith) in omega arith)
-
-not-0 : (h l b : ℕ) → (b ≡ zero → ⊥) → h * 2 ^ 64 + l ≡ b * 1_000_000_000_000 → zero < h + l
-not-0 zero zero b z e = omega arith
-not-0 zero (suc l) b z e = omega arith
-not-0 (suc h) l b z e = omega arith
 
 -- b·U - 1, by its words
 less-high : (h l k m b : ℕ) → h * 2 ^ 64 + l + 1 ≡ k * 2 ^ 64 + m → k * 2 ^ 64 + m ≡ b * 1_000_000_000_000 → b < 2 ^ 64 → h < 2 ^ 40
@@ -52,7 +47,7 @@ in-trillionths-requires : tie.Need-in-trillionths-requires
 in-trillionths-requires c κs = search needs
 
 one-less-requires : tie.Need-one-less-requires
-one-less-requires c κs = not-0 _ _ _ (c .before .if1 .left) (c .in-trillionths .ensures)
+one-less-requires c κs = scaled-above-0 _ _ _ (c .before .if1 .left) (c .in-trillionths .ensures)
 
 whole-root-requires : tie.Need-whole-root-requires
 whole-root-requires c κs = let m = c .before .in-trillionths .ensures in

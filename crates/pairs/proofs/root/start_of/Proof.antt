@@ -3,15 +3,10 @@
 use mathlib.Core.Path.{_≡_}
 use Prim.Native.Nat.{ℕ, zero, suc, _+_, _*_, _-_, _/_, _%_, _^_, _≤_, _<_}
 use native.Mathlib.Omega.{arith}
-use Rattle.pairs.proofs.words.Digits.{scaled-high}
+use Rattle.pairs.proofs.words.Digits.{scaled-high, scaled-above-0}
 use borrow.Author.Needs.{needs}
 use Rattle.pairs.proofs.root.start_of.Statement.{statement}
 use Rattle.pairs.proofs.root.start_of.Tie as tie
-
-not-0 : (h l a : ℕ) → (a ≡ zero → ⊥) → h * 2 ^ 64 + l ≡ a * 1_000_000_000_000 → zero < h + l
-not-0 zero zero a z e = omega arith
-not-0 zero (suc l) a z e = omega arith
-not-0 (suc h) l a z e = omega arith
 
 returns : tie.Need-returns
 returns c = search needs
@@ -21,7 +16,7 @@ in-trillionths-requires c κs = search needs
 
 start-requires : tie.Need-start-requires
 start-requires c κs = let m = c .in-trillionths in
-    (scaled-high _ _ _ (m .ensures) (c .before .before .fits .a .fits), not-0 _ _ _ (c .before .if1 .left) (m .ensures))
+    (scaled-high _ _ _ (m .ensures) (c .before .before .fits .a .fits), scaled-above-0 _ _ _ (c .before .if1 .left) (m .ensures))
 
 returns-2 : tie.Need-returns-2
 returns-2 c = search needs
