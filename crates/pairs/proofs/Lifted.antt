@@ -23,7 +23,7 @@ pub passed-61 : (a : Answer) (p : Pair) → in-order a → a ≡ Is p → figure
 passed-61 a p o e = rw e (sym (ordered p (rw e at o)))
 
 -- A refusal stays.
-pub stays : (a : Answer) (w : Refusal) (f : Figures) → a ≡ Refused w → refused (number-of w) ≡ after (figures a) f
+pub stays : (a : Answer) (w : Refusal) (f : Figures) → a ≡ Refused w → figures a ≡ after (figures a) f
 stays a w f e = rw e (by-refusal w)
   where
     by-refusal : (w : Refusal) → refused (number-of w) ≡ after (refused (number-of w)) f
@@ -33,9 +33,7 @@ stays a w f e = rw e (by-refusal w)
     by-refusal TooLarge = refl
 
 -- and so it does through a series that a refusal goes through.
-pub stays-in :
-    (f : Figures → Figures) → ((n : ℕ) → f (refused (suc n)) ≡ refused (suc n)) → (a : Answer) (w : Refusal) → a ≡ Refused w
-    → refused (number-of w) ≡ f (figures a)
+pub stays-in : (f : Figures → Figures) → ((n : ℕ) → f (refused (suc n)) ≡ refused (suc n)) → (a : Answer) (w : Refusal) → a ≡ Refused w → figures a ≡ f (figures a)
 stays-in f through a w e = rw e (by-refusal w)
   where
     by-refusal : (w : Refusal) → refused (number-of w) ≡ f (refused (number-of w))
@@ -45,5 +43,5 @@ stays-in f through a w e = rw e (by-refusal w)
     by-refusal TooLarge = sym (through 63)
 
 -- The second answer's refusal, after a first that gives.
-pub stays-second : (a b : Answer) (p : Pair) (w : Refusal) (f : Figures) → a ≡ Is p → b ≡ Refused w → refused (number-of w) ≡ after (figures a) (after (figures b) f)
+pub stays-second : (a b : Answer) (p : Pair) (w : Refusal) (f : Figures) → a ≡ Is p → b ≡ Refused w → figures b ≡ after (figures a) (after (figures b) f)
 stays-second a b p w f e g = rw e (stays b w f g)

@@ -21,36 +21,36 @@ fn one_more(a: Answer) -> Answer
     requires { ⌜ in-order a ⌝ }
     ensures { λ r. ⌜ (figures r ≡ answers .sum (series.one answers) (figures a)) × in-order r ⌝ }
 {
-    match a {
-        Answer::Is(p) => sum(
-            Pair {
-                low: UNIT,
-                high: UNIT,
-            },
-            p,
-        ),
-        Answer::Refused(why) => Answer::Refused(why),
-    }
+    let Answer::Is(p) = a else {
+        return a;
+    };
+    sum(
+        Pair {
+            low: UNIT,
+            high: UNIT,
+        },
+        p,
+    )
 }
 
 fn root_of(a: Answer) -> Answer
     requires { ⌜ in-order a ⌝ }
     ensures { λ r. ⌜ (figures r ≡ answers .root (figures a)) × in-order r ⌝ }
 {
-    match a {
-        Answer::Is(p) => root(p),
-        Answer::Refused(why) => Answer::Refused(why),
-    }
+    let Answer::Is(p) = a else {
+        return a;
+    };
+    root(p)
 }
 
 fn over_answer(t: Pair, a: Answer) -> Answer
     requires { ⌜ (t .low ≤ t .high) × in-order a ⌝ }
     ensures { λ r. ⌜ (figures r ≡ answers .quotient (given t) (figures a)) × in-order r ⌝ }
 {
-    match a {
-        Answer::Is(p) => quotient(t, p),
-        Answer::Refused(why) => Answer::Refused(why),
-    }
+    let Answer::Is(p) = a else {
+        return a;
+    };
+    quotient(t, p)
 }
 
 // t/(1+root(1+t·t)).
@@ -58,10 +58,10 @@ fn half_angle(a: Answer) -> Answer
     requires { ⌜ in-order a ⌝ }
     ensures { λ r. ⌜ (figures r ≡ series.half-angle answers (figures a)) × in-order r ⌝ }
 {
-    match a {
-        Answer::Is(t) => over_answer(t, one_more(root_of(one_more(product(t, t))))),
-        Answer::Refused(why) => Answer::Refused(why),
-    }
+    let Answer::Is(t) = a else {
+        return a;
+    };
+    over_answer(t, one_more(root_of(one_more(product(t, t)))))
 }
 
 // 4 times the arc.
@@ -69,13 +69,14 @@ fn four_arcs(a: Answer) -> Answer
     requires { ⌜ in-order a ⌝ }
     ensures { λ r. ⌜ figures r ≡ answers .times (series.arc answers (figures a)) 4 ⌝ }
 {
-    match a {
-        Answer::Is(t) => match arc(t) {
-            Answer::Is(p) => times(p, 4),
-            Answer::Refused(why) => Answer::Refused(why),
-        },
-        Answer::Refused(why) => Answer::Refused(why),
-    }
+    let Answer::Is(t) = a else {
+        return a;
+    };
+    let angle = arc(t);
+    let Answer::Is(p) = angle else {
+        return angle;
+    };
+    times(p, 4)
 }
 
 pub fn atan(t: Pair) -> Answer

@@ -52,10 +52,10 @@ fn square(a: Answer) -> Answer
     requires { ⌜ in-order a ⌝ }
     ensures { λ r. ⌜ (figures r ≡ answers .product (figures a) (figures a)) × in-order r ⌝ }
 {
-    match a {
-        Answer::Is(p) => product(p, p),
-        Answer::Refused(why) => Answer::Refused(why),
-    }
+    let Answer::Is(p) = a else {
+        return a;
+    };
+    product(p, p)
 }
 
 // exp(-y), y below 256.

@@ -5,7 +5,7 @@ use Rattle.pairs.specs.declared.answer.Pair.{Pair}
 use Rattle.pairs.specs.declared.answer.Refusal.{Refusal}
 use Rattle.pairs.specs.declared.answer.Answer.{Answer}
 use Rattle.pairs.specs.declared.answer.Answer.the-variants.{Is, Refused}
-use Rattle.pairs.specs.Figures.{Figures, figures, refused, number-of}
+use Rattle.pairs.specs.Figures.{Figures, figures}
 use Rattle.pairs.specs.Private.{in-order}
 use Rattle.pairs.specs.Answers as A
 use Rattle.pairs.specs.Answers.{answers, arc-of, times-of}
@@ -27,55 +27,53 @@ answered :
 answered a t b p r o e f g h =
     rw (arc-is a t b o e f, passed-61 b p (answer-in-order b f (arc-kept agreement (admitted-agrees t))) g) h
 
-refused-arc :
-    (a : Answer) (t : Pair) (b : Answer) (w : Refusal) → in-order a → a ≡ Is t → figures b ≡ arc-of t → b ≡ Refused w
-    → refused (number-of w) ≡ A.times (arc answers (figures a)) 4
+refused-arc : (a : Answer) (t : Pair) (b : Answer) (w : Refusal) → in-order a → a ≡ Is t → figures b ≡ arc-of t → b ≡ Refused w → figures b ≡ A.times (arc answers (figures a)) 4
 unfolding A.times
 refused-arc a t b w o e f g = rw (arc-is a t b o e f) (stays b w _ g)
 
-refused-before : (a : Answer) (w : Refusal) → a ≡ Refused w → refused (number-of w) ≡ A.times (arc answers (figures a)) 4
+refused-before : (a : Answer) (w : Refusal) → a ≡ Refused w → figures a ≡ A.times (arc answers (figures a)) 4
 unfolding A.times
-refused-before a w e = rw (sym (stays-in (arc answers) arc-refused a w e)) (stays (Refused w) w _ refl)
+refused-before a w e = rw (sym (stays-in (arc answers) arc-refused a w e)) (stays a w _ e)
 
 enum-known-a : tie.Need-enum-known-a
 enum-known-a c = search needs
 
+enum-told : tie.Need-enum-told
+enum-told c = search needs
+
+returns : tie.Need-returns
+returns c = refused-before _ _ (c .enum-told .given .1)
+
 arc-requires : tie.Need-arc-requires
 arc-requires c κs = search needs
 
-enum-known-p : tie.Need-enum-known-p
-enum-known-p c = search needs
+enum-known-angle : tie.Need-enum-known-angle
+enum-known-angle c = search needs
+
+enum-told-2 : tie.Need-enum-told-2
+enum-told-2 c = search needs
+
+returns-2 : tie.Need-returns-2
+returns-2 c = let d = c .before .before .before .before in
+    refused-arc _ _ _ _ (d .before .before .pre) (d .a .given .1) (c .before .before .arc .ensures) (c .enum-told2 .given .1)
 
 times-requires : tie.Need-times-requires
 times-requires c κs = search needs
 
-enum-known-why : tie.Need-enum-known-why
-enum-known-why c = search needs
-
-enum-known-a-2 : tie.Need-enum-known-a-2
-enum-known-a-2 c = search needs
-
-returns : tie.Need-returns
-returns c = let d = c .before .before .before .before .before .before in
-    answered _ _ _ _ _ (d .before .before .pre) (d .a .given .1) (c .before .before .before .before .arc .ensures) (c .before .before .p .given .1) (c .times .ensures)
-
-returns-2 : tie.Need-returns-2
-returns-2 c = let d = c .before .before .before .before .before in
-    refused-arc _ _ _ _ (d .before .before .pre) (d .a .given .1) (c .before .before .before .arc .ensures) (c .before .why .given .1)
-
 returns-3 : tie.Need-returns-3
-returns-3 c = refused-before _ _ (c .before .a2 .given .1)
+returns-3 c = let d = c .before .before .before .before in
+    answered _ _ _ _ _ (d .before .before .before .before .pre) (d .before .before .a .given .1) (d .arc .ensures) (c .before .before .angle .given .1) (c .times .ensures)
 
 pub four-arcs-spec : {M : Type 1} → statement M
 four-arcs-spec =
     tie.close
     (tie.spec
     enum-known-a
-    arc-requires
-    enum-known-p
-    times-requires
-    enum-known-why
-    enum-known-a-2
+    enum-told
     returns
+    arc-requires
+    enum-known-angle
+    enum-told-2
     returns-2
+    times-requires
     returns-3)

@@ -1,7 +1,7 @@
 -- `half_angle` meets its contract: the steps' contracts in a row, and a refusal stays.
 -- Assumes nothing.
 use mathlib.Core.Path.{_≡_, sym, ap, _∙_}
-use Prim.Native.Nat.{_≤_, zero-le}
+use Prim.Native.Nat.{_≤_}
 use Rattle.pairs.specs.declared.answer.Pair.{Pair}
 use Rattle.pairs.specs.declared.answer.Answer.{Answer}
 use Rattle.pairs.specs.declared.answer.Answer.the-variants.{Is}
@@ -31,6 +31,13 @@ steps a t s p r q o e f g h k =
 enum-known-a : tie.Need-enum-known-a
 enum-known-a c = search needs
 
+enum-told : tie.Need-enum-told
+enum-told c = search needs
+
+returns : tie.Need-returns
+unfolding half-angle A.quotient
+returns c = (stays _ _ _ (c .enum-told .given .1), c .before .before .pre)
+
 product-requires : tie.Need-product-requires
 product-requires c κs = search needs
 
@@ -47,31 +54,24 @@ over-answer-requires : tie.Need-over-answer-requires
 over-answer-requires c κs = let d = c .before .before .before .before .before in
     (pair-in-order _ _ (d .before .before .pre) (d .a .given .1), c .one-more2 .ensures .1)
 
-enum-known-a-2 : tie.Need-enum-known-a-2
-enum-known-a-2 c = search needs
-
-returns : tie.Need-returns
-returns c = let d = c .before .before .before .before in (
+returns-2 : tie.Need-returns-2
+returns-2 c = let d = c .before .before .before .before in (
   c .over-answer .ensures .0
       ∙ steps _ _ _ _ _ _ (d .before .before .before .before .pre) (d .before .before .a .given .1) (d .product .ensures)
       (c .before .before .before .one-more .ensures .0) (c .before .before .root-of .ensures .0) (c .before .one-more2 .ensures .0),
   c .over-answer .ensures .1,
 )
 
-returns-2 : tie.Need-returns-2
-unfolding half-angle A.quotient
-returns-2 c = (stays _ _ _ (c .before .a2 .given .1), zero-le)
-
 pub half-angle-spec : {M : Type 1} → statement M
 half-angle-spec =
     tie.close
     (tie.spec
     enum-known-a
+    enum-told
+    returns
     product-requires
     one-more-requires
     root-of-requires
     one-more-requires-2
     over-answer-requires
-    enum-known-a-2
-    returns
     returns-2)

@@ -1,7 +1,6 @@
 -- `one_more` meets its contract: a pair in order has passed 61, and a refusal stays.
 -- Assumes nothing.
 use mathlib.Core.Path.{_≡_, refl, sym, ap₂, _∙_}
-use Prim.Native.Nat.{zero-le}
 use Rattle.pairs.specs.Answers as A
 use Rattle.pairs.specs.Answers.{answers, admitted}
 use Rattle.pairs.specs.Series.{one}
@@ -20,21 +19,21 @@ one-admitted = refl
 enum-known-a : tie.Need-enum-known-a
 enum-known-a c = search needs
 
+enum-told : tie.Need-enum-told
+enum-told c = search needs
+
+returns : tie.Need-returns
+unfolding A.constant A.fitting R.constant A.sum
+returns c = (stays _ _ _ (c .enum-told .given .1), c .before .before .pre)
+
 sum-requires : tie.Need-sum-requires
 sum-requires c κs = search needs
 
-enum-known-a-2 : tie.Need-enum-known-a-2
-enum-known-a-2 c = search needs
-
-returns : tie.Need-returns
-returns c = (
+returns-2 : tie.Need-returns-2
+returns-2 c = (
   c .sum .ensures ∙ ap₂ A.sum one-admitted (sym (passed-61 _ _ (c .before .before .before .before .pre) (c .before .before .a .given .1))),
   answer-in-order (c .sum .result) (c .sum .ensures) (agreement .sum (admitted-agrees _) (admitted-agrees _)),
 )
 
-returns-2 : tie.Need-returns-2
-unfolding A.constant A.fitting R.constant A.sum
-returns-2 c = (stays _ _ _ (c .before .a2 .given .1), zero-le)
-
 pub one-more-spec : {M : Type 1} → statement M
-one-more-spec = tie.close (tie.spec enum-known-a sum-requires enum-known-a-2 returns returns-2)
+one-more-spec = tie.close (tie.spec enum-known-a enum-told returns sum-requires returns-2)

@@ -1,6 +1,5 @@
 -- `square` meets its contract: a pair in order has passed 61, and a refusal stays.
 -- Assumes nothing.
-use Prim.Native.Nat.{zero-le}
 use Rattle.pairs.specs.Answers as A
 use Rattle.pairs.proofs.Agreement.{agreement, admitted-agrees}
 use Rattle.pairs.proofs.Lifted.{answer-in-order, passed-61, stays}
@@ -11,21 +10,21 @@ use Rattle.pairs.proofs.exp_neg.square.Tie as tie
 enum-known-a : tie.Need-enum-known-a
 enum-known-a c = search needs
 
+enum-told : tie.Need-enum-told
+enum-told c = search needs
+
+returns : tie.Need-returns
+unfolding A.product
+returns c = (stays _ _ _ (c .enum-told .given .1), c .before .before .pre)
+
 product-requires : tie.Need-product-requires
 product-requires c κs = search needs
 
-enum-known-a-2 : tie.Need-enum-known-a-2
-enum-known-a-2 c = search needs
-
-returns : tie.Need-returns
-returns c = (
+returns-2 : tie.Need-returns-2
+returns-2 c = (
   rw (passed-61 _ _ (c .before .before .before .before .pre) (c .before .before .a .given .1)) (c .product .ensures),
   answer-in-order (c .product .result) (c .product .ensures) (agreement .product (admitted-agrees _) (admitted-agrees _)),
 )
 
-returns-2 : tie.Need-returns-2
-unfolding A.product
-returns-2 c = (stays _ _ _ (c .before .a2 .given .1), zero-le)
-
 pub square-spec : {M : Type 1} → statement M
-square-spec = tie.close (tie.spec enum-known-a product-requires enum-known-a-2 returns returns-2)
+square-spec = tie.close (tie.spec enum-known-a enum-told returns product-requires returns-2)
