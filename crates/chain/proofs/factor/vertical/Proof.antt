@@ -1,7 +1,7 @@
 -- `vertical` meets its contract: the step's operations, one by one.
 -- Assumes nothing.
-use mathlib.Core.Path.{_≡_, refl, sym, ap, _∙_}
-use Rattle.pairs.specs.Rounded as R
+use mathlib.Core.Path.{refl, ap, ap₂, _∙_}
+use Rattle.pairs.specs.Series.{atan}
 use Rattle.pairs.specs.Answers as A
 use Rattle.chain.specs.Chain as chain
 use borrow.Author.Needs.{needs}
@@ -49,7 +49,17 @@ quotient-of-requires-2 c κs = search needs
 
 returns : tie.Need-returns
 unfolding chain.vertical
-returns c = (cc, c .quotient-of2 .ensures .1)
+returns c =
+    let s = c .before .before .before .before .before .before in
+    let t = s .before .before .before .before .before in
+    let slope = t .quotient-of .ensures .0 ∙ ap₂ A.quotient refl (t .before .x-of .ensures .0) in
+    let ratio = s .before .before .product-of .ensures .0 ∙ ap₂ A.product slope (s .before .before .before .vertical-ratio .ensures .0) in
+    let tilted = s .before .product-of2 .ensures .0 ∙ ap₂ A.product ratio (t .before .before .pre .1 .1 .0) in
+    let seen = s .sum-of .ensures .0 ∙ ap₂ A.sum (s .before .before .before .before .height-angle .ensures .0) tilted in
+    let angle = c .before .before .before .before .atan-of .ensures .0 ∙ ap (atan A.answers) (c .before .before .before .before .before .r-of .ensures .0) in
+    let hidden = c .before .before .before .product-of3 .ensures .0 ∙ ap₂ A.product slope angle in
+    let left = c .before .before .difference-of .ensures .0 ∙ ap₂ A.difference seen hidden in
+    (c .quotient-of2 .ensures .0 ∙ ap₂ A.quotient left (c .before .pi-answer .ensures .0), c .quotient-of2 .ensures .1)
 
 pub vertical-spec : {M : Type 1} → statement M
 vertical-spec =

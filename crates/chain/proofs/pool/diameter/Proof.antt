@@ -1,7 +1,7 @@
 -- `diameter` meets its contract: the step's operations, one by one.
 -- Assumes nothing.
-use mathlib.Core.Path.{_≡_, refl, sym, ap, _∙_}
-use Prim.Native.Nat.{ℕ, zero, suc, _+_, _*_, _-_, _/_, _%_, _^_, _≤_, _<_}
+use mathlib.Core.Path.{_≡_, sym, ap, ap₂, _∙_}
+use Prim.Native.Nat.{ℕ, _*_, _/_, _≤_}
 use native.Mathlib.Omega.{arith}
 use Rattle.pairs.specs.Rounded as R
 use Rattle.pairs.specs.Answers as A
@@ -41,7 +41,11 @@ root-of-requires c κs = search needs
 
 returns : tie.Need-returns
 unfolding chain.diameter
-returns c = (cc (pool-area (c .before .before .before .before .before .args .e .area) (c .before .before .before .before .before .pre)), c .root-of .ensures .1)
+returns c =
+    let s = c .before .before .before .before .before in
+    let area = c .before .before .before .exact .ensures .0 ∙ pool-area (s .args .e .area) (s .pre) in
+    let square = c .before .quotient-of .ensures .0 ∙ ap₂ A.quotient area (c .before .before .pi-answer .ensures .0) in
+    (c .root-of .ensures .0 ∙ ap A.root square, c .root-of .ensures .1)
 
 pub diameter-spec : {M : Type 1} → statement M
 diameter-spec =
