@@ -1,13 +1,15 @@
--- An answer whose figures are given is the pair, and no refusal.
+-- An answer whose figures are given is the pair, and no refusal; a refusal is the answer of what follows it.
 -- By cases of the answer and of the refusal. Assumes nothing.
 use mathlib.Core.Path.{_≡_, sym, ap, _∙_}
+use Prim.Native.Nat.{ℕ, suc}
 use native.Mathlib.Omega.{arith}
 use Rattle.pairs.specs.declared.answer.Pair.{Pair}
 use Rattle.pairs.specs.declared.answer.Refusal.{Refusal}
 use Rattle.pairs.specs.declared.answer.Refusal.the-variants.{Disordered, ZeroDivisor, OutOfSpan, TooLarge}
 use Rattle.pairs.specs.declared.answer.Answer.{Answer}
 use Rattle.pairs.specs.declared.answer.Answer.the-variants.{Is, Refused}
-use Rattle.pairs.specs.Figures.{Figures, figures, given, number-of}
+use Rattle.pairs.specs.Figures.{Figures, figures, given, refused, number-of, after}
+use Rattle.pairs.proofs.Lifted.{stays, stays-in, stays-second}
 
 pub gives : (a : Answer) (p q : Pair) → figures a ≡ given p → a ≡ Is q → q ≡ p
 gives a p q e f = ap (λ (x : Figures). x .pair) (sym (ap figures f) ∙ e)
@@ -20,3 +22,13 @@ never-refused a p w e f = not-0 w (ap (λ (x : Figures). x .number) (sym (ap fig
     not-0 ZeroDivisor z = omega arith
     not-0 OutOfSpan z = omega arith
     not-0 TooLarge z = omega arith
+
+pub first-stays : (a : Answer) (w : Refusal) (f : Figures) → a ≡ Refused w → figures a ≡ after (figures a) f
+first-stays a w f e = ap figures e ∙ stays a w f e
+
+pub second-stays : (a b : Answer) (p : Pair) (w : Refusal) (f : Figures) → a ≡ Is p → b ≡ Refused w → figures b ≡ after (figures a) (after (figures b) f)
+second-stays a b p w f e g = ap figures g ∙ stays-second a b p w f e g
+
+-- and so through a series that a refusal goes through.
+pub stays-through : (f : Figures → Figures) → ((n : ℕ) → f (refused (suc n)) ≡ refused (suc n)) → (a : Answer) (w : Refusal) → a ≡ Refused w → figures a ≡ f (figures a)
+stays-through f through a w e = ap figures e ∙ stays-in f through a w e
