@@ -36,7 +36,7 @@ returns c =
     let x = s .before .before .before .x-of .ensures .0 in
     let squares = s .sum-of .ensures .0 ∙ ap₂ A.sum (s .before .before .product-of .ensures .0) (s .before .product-of2 .ensures .0 ∙ ap₂ A.product x x) in
     let above = c .before .sum-of2 .ensures .0 ∙ ap₂ A.sum squares (c .before .before .exact .ensures .0) in
-    (c .quotient-of .ensures .0 ∙ ap₂ A.quotient above (s .before .before .before .before .pre .1 .0), c .quotient-of .ensures .1)
+    (c .quotient-of .ensures .0 ∙ ap₂ A.quotient above (s .before .before .before .before .pre .1 .product .0), c .quotient-of .ensures .1)
 
 pub vertical-ratio-spec : {M : Type 1} → statement M
 vertical-ratio-spec =
