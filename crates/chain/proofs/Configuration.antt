@@ -2,17 +2,17 @@
 -- By one sweep over l and e. Assumes nothing.
 use mathlib.Core.Path.{_≡_, refl}
 use mathlib.Core.Bool.{Bool, true, false, _&&_}
-use Prim.Native.Nat.{ℕ, suc, _+_, _*_, _/_, _≤_}
+use Prim.Native.Nat.{ℕ, suc, _+_, _*_, _-_, _/_, _≤_}
 use lib.Dec.{T, eqb}
 use lib.Ieee.Fits.{and-l, and-r}
 use Rattle.pairs.specs.Rounded.{U}
 use Rattle.pairs.specs.Figures.{Figures}
 use Rattle.pairs.specs.Answers.{answers}
-use Rattle.chain.specs.Chain.{g, vertical, horizontal, factor}
+use Rattle.chain.specs.Chain.{vertical, horizontal, factor}
 use Rattle.chain.proofs.Bounds.{Bound, bounds, bound, larger}
-use Rattle.chain.proofs.Within.{Held, within}
+use Rattle.chain.proofs.Within.{Held, Within, within}
 use Rattle.chain.proofs.Steps.{choice-kept}
-use Rattle.chain.proofs.FactorRun.{tilt-run, vertical-run, horizontal-run, tilt-run-kept, vertical-run-kept, horizontal-run-kept}
+use Rattle.chain.proofs.FactorRun.{Row, RowKept, row-run, faces-run, row-run-kept, upright-kept, level-kept}
 use Rattle.chain.proofs.Boxes.{box, boxed, known, below-last, passing, passed}
 use Rattle.chain.proofs.Opened.{opened}
 use Rattle.chain.proofs.Sweep.{sweep, swept}
@@ -35,64 +35,63 @@ unfoldable pub factor-bound : ℕ → Bound
 factor-bound face =
     elim (eqb face 1) [ true ↦ vertical-bound | false ↦ elim (eqb face 2) [ true ↦ horizontal-bound | false ↦ vertical-bound ] ]
 
-unfoldable pub factor-test : Bound → Bound → Bool
-factor-test l e =
-    let T = tilt-run bounds l e in
-    passing vertical-bound (vertical-run bounds l e T) && passing horizontal-bound (horizontal-run bounds l e T)
+-- l from a to b, in the row of e.
+unfoldable pub box-test : Row bounds → ℕ → ℕ → Bool
+box-test E a b =
+    let F = faces-run bounds E (box a b (relative-height-bound .width)) in
+    passing vertical-bound (F .upright) && passing horizontal-bound (F .level)
+
+-- e from c to d.
+abbrev row-of : ℕ → ℕ → Row bounds
+row-of c d = row-run bounds (box c d (relative-distance-bound .width))
 
 abbrev pub next-distance : ℕ → ℕ
 next-distance e = e + e / 2
 
-abbrev pub next-height : ℕ → ℕ
-next-height l = l + l / 4
+-- Longer boxes where the target is farther than the radius.
+abbrev pub next-height : ℕ → ℕ → ℕ
+next-height e l = l + l / 4 + (e - U) * 3 / 4
 
--- l from a to b, e from c to d.
-unfoldable pub box-test : ℕ → ℕ → ℕ → ℕ → Bool
-box-test a b c d = factor-test (box a b (relative-height-bound .width)) (box c d (relative-distance-bound .width))
+unfoldable pub height-sweep : ℕ → ℕ → Bool
+height-sweep c d = sweep (box-test (row-of c d)) (next-height c) 40 (relative-height-bound .least) (suc (relative-height-bound .most))
 
-unfoldable pub distance-sweep : ℕ → ℕ → Bool
-distance-sweep a b = sweep (box-test a b) next-distance 40 (relative-distance-bound .least) (suc (relative-distance-bound .most))
-
-factor-sweep : T (sweep distance-sweep next-height 40 (relative-height-bound .least) (suc (relative-height-bound .most)))
-unfolding opened distance-sweep box-test factor-test
+factor-sweep : T (sweep height-sweep next-distance 40 (relative-distance-bound .least) (suc (relative-distance-bound .most)))
+unfolding opened height-sweep box-test
 factor-sweep = tt
 
 record Factors (l e : Figures) : Type 0 where
   upright : Held (vertical answers l e) vertical-bound
   level : Held (horizontal answers l e) horizontal-bound
 
-abbrev Distance : Figures → ℕ → Type 0
-Distance l j = (e : Figures) → e .pair .low ≡ j → Held e relative-distance-bound → Factors l e
+abbrev Height : Figures → ℕ → Type 0
+Height e i = (l : Figures) → l .pair .low ≡ i → Held l relative-height-bound → Factors l e
 
-abbrev Height : ℕ → Type 0
-Height i = (l e : Figures) → l .pair .low ≡ i → Held l relative-height-bound → Held e relative-distance-bound → Factors l e
+abbrev Distance : ℕ → Type 0
+Distance j = (l e : Figures) → e .pair .low ≡ j → Held l relative-height-bound → Held e relative-distance-bound → Factors l e
 
-tested : (a b : ℕ) (l : Figures) → a ≤ l .pair .low → l .pair .low ≤ b → Held l relative-height-bound → (c d : ℕ) → T (box-test a b c d) → (j : ℕ) → c ≤ j → j ≤ d → Distance l j
-unfolding box-test factor-test
-tested a b l p q h c d t j m n e eq k =
-    let L = boxed {f = l} a b h p q in
-    let D = boxed {f = e} c d k (rw eq m) (rw eq n) in
-    let l-box = box a b (relative-height-bound .width) in
-    let e-box = box c d (relative-distance-bound .width) in
-    let T = tilt-run bounds l-box e-box in
-    let upright : Bool = passing vertical-bound (vertical-run bounds l-box e-box T) in
-    let level : Bool = passing horizontal-bound (horizontal-run bounds l-box e-box T) in
-    let tilted = tilt-run-kept within L D in
+tested : (E : Row bounds) (e : Figures) → RowKept answers bounds Within e E → (a b : ℕ) → T (box-test E a b) → (i : ℕ) → a ≤ i → i ≤ b → Height e i
+unfolding box-test
+tested E e k a b t i p q l eq h =
+    let L = boxed {f = l} a b h (rw eq p) (rw eq q) in
+    let F = faces-run bounds E (box a b (relative-height-bound .width)) in
+    let upright : Bool = passing vertical-bound (F .upright) in
+    let level : Bool = passing horizontal-bound (F .level) in
     record {
-      upright = passed vertical-bound (and-l upright level t) (vertical-run-kept within L D tilted);
-      level = passed horizontal-bound (and-r upright level t) (horizontal-run-kept within L D tilted);
+      upright = passed vertical-bound (and-l upright level t) (upright-kept within L k);
+      level = passed horizontal-bound (and-r upright level t) (level-kept within L k);
     }
 
-row : (a b : ℕ) → T (distance-sweep a b) → (i : ℕ) → a ≤ i → i ≤ b → Height i
-unfolding distance-sweep
-row a b t i p q l e eq h k =
-    swept (box-test a b) next-distance (Distance l) (tested a b l (rw eq p) (rw eq q) h) 40 (relative-distance-bound .least) (suc (relative-distance-bound .most)) t (e .pair .low) (k .inside .low)
-    (below-last k) e refl k
+row : (c d : ℕ) → T (height-sweep c d) → (j : ℕ) → c ≤ j → j ≤ d → Distance j
+unfolding height-sweep
+row c d t j p q l e eq h k =
+    let E = row-run-kept within (boxed {f = e} c d k (rw eq p) (rw eq q)) in
+    swept (box-test (row-of c d)) (next-height c) (Height e) (tested (row-of c d) e E) 40 (relative-height-bound .least) (suc (relative-height-bound .most)) t (l .pair .low)
+    (h .inside .low) (below-last h) l refl h
 
 factors : {l e : Figures} → Held l relative-height-bound → Held e relative-distance-bound → Factors l e
 factors {l} {e} h k =
-    swept distance-sweep next-height Height row 40 (relative-height-bound .least) (suc (relative-height-bound .most)) factor-sweep (l .pair .low)
-    (h .inside .low) (below-last h) l e refl h k
+    swept height-sweep next-distance Distance row 40 (relative-distance-bound .least) (suc (relative-distance-bound .most)) factor-sweep (e .pair .low)
+    (k .inside .low) (below-last k) l e refl h k
 
 -- The larger of two factors is bounded as the vertical one is.
 worst-held : {f g : Figures} → Held f vertical-bound → Held g horizontal-bound → Held (answers .larger f g) vertical-bound

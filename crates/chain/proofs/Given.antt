@@ -1,6 +1,6 @@
 -- An answer whose figures are given is the pair, and no refusal.
 -- By cases of the answer and of the refusal. Assumes nothing.
-use mathlib.Core.Path.{_≡_, refl, sym, ap, _∙_}
+use mathlib.Core.Path.{_≡_, sym, ap, _∙_}
 use Prim.Native.Nat.{ℕ}
 use native.Mathlib.Omega.{arith}
 use Rattle.pairs.specs.declared.answer.Pair.{Pair}
@@ -8,7 +8,7 @@ use Rattle.pairs.specs.declared.answer.Refusal.{Refusal}
 use Rattle.pairs.specs.declared.answer.Refusal.the-variants.{Disordered, ZeroDivisor, OutOfSpan, TooLarge}
 use Rattle.pairs.specs.declared.answer.Answer.{Answer}
 use Rattle.pairs.specs.declared.answer.Answer.the-variants.{Is, Refused}
-use Rattle.pairs.specs.Figures.{Figures, figures, given, refused, number-of}
+use Rattle.pairs.specs.Figures.{Figures, figures, given, number-of}
 
 pub gives : (a : Answer) (p q : Pair) → figures a ≡ given p → a ≡ Is q → q ≡ p
 gives a p q e f = ap (λ (x : Figures). x .pair) (sym (ap figures f) ∙ e)

@@ -15,3 +15,4 @@ pub mod Accepted
 pub mod FactorAlone
 pub mod Examples
 pub mod Given
+pub mod Constants

@@ -1,4 +1,5 @@
--- Document 01, in its order: the chain, and the refusals of one flux and of a factor alone.
+-- Document 01, in its order: the chain, and the refusals of one flux and of a factor alone; then the private vocabulary.
 pub mod Chain
 pub mod Flux
 pub mod Factor
+pub mod Private

@@ -18,6 +18,7 @@ ghost use Rattle.pairs.specs.Answers.{answers};
 ghost use Rattle.chain.specs.Chain as chain;
 ghost use Rattle.chain.specs.Factor as alone;
 ghost use Rattle.pairs.specs.Private.{in-order};
+ghost use Rattle.chain.specs.Private.{SharedOf};
 
 // x = 1+e.
 fn x_of(e: Answer) -> Answer
@@ -60,22 +61,23 @@ fn v_of(l: Answer, e: Answer) -> Answer
     root_of(sum_of(product_of(l, l), product_of(e, e)))
 }
 
-// What both faces share: u·v, and A = atan((r·u)/v).
+// What both faces share: r, u·v, and A = atan((r·u)/v).
 struct Shared {
+    r: Answer,
     product: Answer,
     tilt: Answer,
 }
 
 fn shared_by_faces(l: Answer, e: Answer) -> Shared
     requires { ⌜ in-order l × in-order e ⌝ }
-    ensures { λ r. ⌜ (figures (r .product) ≡ answers .product (chain.u answers (figures l) (figures e)) (chain.v answers (figures l) (figures e))) × in-order (r .product) ⌝ }
-    ensures { λ r. ⌜ (figures (r .tilt) ≡ chain.tilt answers (figures l) (figures e)) × in-order (r .tilt) ⌝ }
+    ensures { λ r. ⌜ SharedOf l e r ⌝ }
 {
+    let r = r_of(e);
     let u = u_of(l, e);
     let v = v_of(l, e);
     let product = product_of(u, v);
-    let tilt = atan_of(quotient_of(product_of(r_of(e), u), v));
-    Shared { product, tilt }
+    let tilt = atan_of(quotient_of(product_of(r, u), v));
+    Shared { r, product, tilt }
 }
 
 // atan(l/root(e·g))/x.
@@ -90,11 +92,12 @@ fn height_angle(l: Answer, e: Answer) -> Answer
 }
 
 // (l·l+x·x+1)/(u·v).
-fn vertical_ratio(l: Answer, e: Answer, product: Answer) -> Answer
+fn vertical_ratio(l: Answer, e: Answer, both: Shared) -> Answer
     requires { ⌜ in-order l × in-order e ⌝ }
-    requires { ⌜ (figures product ≡ answers .product (chain.u answers (figures l) (figures e)) (chain.v answers (figures l) (figures e))) × in-order product ⌝ }
+    requires { ⌜ SharedOf l e both ⌝ }
     ensures { λ r. ⌜ (figures r ≡ chain.vertical-ratio answers (figures l) (figures e)) × in-order r ⌝ }
 {
+    let product = both.product;
     let x = x_of(e);
     quotient_of(
         sum_of(
@@ -106,30 +109,32 @@ fn vertical_ratio(l: Answer, e: Answer, product: Answer) -> Answer
 }
 
 // The vertical face (B.2).
-fn vertical(l: Answer, e: Answer, product: Answer, tilt: Answer) -> Answer
+fn vertical(l: Answer, e: Answer, both: Shared) -> Answer
     requires { ⌜ in-order l × in-order e ⌝ }
-    requires { ⌜ (figures product ≡ answers .product (chain.u answers (figures l) (figures e)) (chain.v answers (figures l) (figures e))) × in-order product ⌝ }
-    requires { ⌜ (figures tilt ≡ chain.tilt answers (figures l) (figures e)) × in-order tilt ⌝ }
+    requires { ⌜ SharedOf l e both ⌝ }
     ensures { λ r. ⌜ (figures r ≡ chain.vertical answers (figures l) (figures e)) × in-order r ⌝ }
 {
+    let r = both.r;
+    let tilt = both.tilt;
     let slope = quotient_of(l, x_of(e));
     let seen = sum_of(
         height_angle(l, e),
-        product_of(product_of(slope, vertical_ratio(l, e, product)), tilt),
+        product_of(product_of(slope, vertical_ratio(l, e, both)), tilt),
     );
     quotient_of(
-        difference_of(seen, product_of(slope, atan_of(r_of(e)))),
+        difference_of(seen, product_of(slope, atan_of(r))),
         pi_answer(),
     )
 }
 
 // The horizontal face, looking up (B.4).
-fn horizontal(l: Answer, e: Answer, product: Answer, tilt: Answer) -> Answer
+fn horizontal(l: Answer, e: Answer, both: Shared) -> Answer
     requires { ⌜ in-order l × in-order e ⌝ }
-    requires { ⌜ (figures product ≡ answers .product (chain.u answers (figures l) (figures e)) (chain.v answers (figures l) (figures e))) × in-order product ⌝ }
-    requires { ⌜ (figures tilt ≡ chain.tilt answers (figures l) (figures e)) × in-order tilt ⌝ }
+    requires { ⌜ SharedOf l e both ⌝ }
     ensures { λ r. ⌜ (figures r ≡ chain.horizontal answers (figures l) (figures e)) × in-order r ⌝ }
 {
+    let product = both.product;
+    let tilt = both.tilt;
     let g = g_of(e);
     let ratio = quotient_of(sum_of(product_of(l, l), product_of(e, g)), product);
     quotient_of(
@@ -144,18 +149,13 @@ pub(crate) fn factor_of(face: u8, l: Answer, e: Answer) -> Answer
     ensures { λ r. ⌜ (figures r ≡ chain.factor answers face (figures l) (figures e)) × in-order r ⌝ }
 {
     let both = shared_by_faces(l, e);
-    let product = both.product;
-    let tilt = both.tilt;
     if face == 1 {
-        return vertical(l, e, product, tilt);
+        return vertical(l, e, both);
     }
     if face == 2 {
-        return horizontal(l, e, product, tilt);
+        return horizontal(l, e, both);
     }
-    larger_of(
-        vertical(l, e, product, tilt),
-        horizontal(l, e, product, tilt),
-    )
+    larger_of(vertical(l, e, both), horizontal(l, e, both))
 }
 
 // The factor from l and e in trillionths, with limits of its own.

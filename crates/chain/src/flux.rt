@@ -17,14 +17,13 @@ use super::pool::heat_release;
 use pairs::answer::Answer;
 use pairs::answer::Pair;
 ghost use mathlib.Core.Path.{_≡_};
-ghost use mathlib.Core.Bool.{true, false, _&&_, not};
 ghost use Prim.Native.Nat.{_*_, _≤_};
-ghost use lib.Dec.{eqb, leb};
-ghost use Rattle.pairs.specs.Rounded.{U, down, up, rounded};
+ghost use Rattle.pairs.specs.Rounded.{U, rounded};
 ghost use Rattle.pairs.specs.Figures.{figures, given};
 ghost use Rattle.pairs.specs.Answers.{answers};
 ghost use Rattle.chain.specs.Chain as chain;
-ghost use Rattle.chain.specs.Flux.{outside, fuel-within, flame-too-low, flux-of, shown};
+ghost use Rattle.chain.specs.Flux.{flame-too-low, flux-of, shown};
+ghost use Rattle.chain.specs.Private.{Limited, Prints};
 ghost use Rattle.pairs.specs.Private.{in-order};
 
 // Whether 4·L.low is under D.high.
@@ -65,7 +64,7 @@ fn radiant_flux(e: Enquiry, diameter: Answer, heat: Answer, height: Answer) -> A
 // Low and high in whole W/m², and the note.
 fn printed(q: Pair, method: u8) -> Printed
     requires { ⌜ (q .low ≤ q .high) × (q .high ≤ 740 * U) ⌝ }
-    ensures { λ r. ⌜ (r .low ≡ down (1000 * q .low) U) × (r .high ≡ up (1000 * q .high) U) × (r .note ≡ (elim (eqb method 1 && leb (down (1000 * q .low) U) 5000) [ true ↦ 1 | false ↦ 0 ])) ⌝ }
+    ensures { λ r. ⌜ Prints q method r ⌝ }
 {
     let low = (q.low / 1_000_000_000) as u32;
     let high = ((q.high + 999_999_999) / 1_000_000_000) as u32;
@@ -79,7 +78,7 @@ fn printed(q: Pair, method: u8) -> Printed
 
 // The answer to an enquiry within its limits.
 fn flux_within(e: Enquiry) -> Flux
-    requires { ⌜ (not (fuel-within e) ≡ false) × (outside 100 190_000 (e .area) ≡ false) × (outside 1 2 (e .method) ≡ false) × (outside 1_000 200_000 (e .distance) ≡ false) × (outside 1 3 (e .face) ≡ false) ⌝ }
+    requires { ⌜ Limited e ⌝ }
     ensures { λ r. ⌜ shown r ≡ flux-of e ⌝ }
 {
     let across = diameter(e);

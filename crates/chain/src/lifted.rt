@@ -25,112 +25,112 @@ pub(crate) fn sum_of(a: Answer, b: Answer) -> Answer
     requires { ⌜ in-order a × in-order b ⌝ }
     ensures { λ r. ⌜ (figures r ≡ answers .sum (figures a) (figures b)) × in-order r ⌝ }
 {
-    match a {
-        Answer::Is(p) => match b {
-            Answer::Is(q) => sum(p, q),
-            Answer::Refused(why) => Answer::Refused(why),
-        },
-        Answer::Refused(why) => Answer::Refused(why),
-    }
+    let Answer::Is(p) = a else {
+        return a;
+    };
+    let Answer::Is(q) = b else {
+        return b;
+    };
+    sum(p, q)
 }
 
 pub(crate) fn difference_of(a: Answer, b: Answer) -> Answer
     requires { ⌜ in-order a × in-order b ⌝ }
     ensures { λ r. ⌜ (figures r ≡ answers .difference (figures a) (figures b)) × in-order r ⌝ }
 {
-    match a {
-        Answer::Is(p) => match b {
-            Answer::Is(q) => difference(p, q),
-            Answer::Refused(why) => Answer::Refused(why),
-        },
-        Answer::Refused(why) => Answer::Refused(why),
-    }
+    let Answer::Is(p) = a else {
+        return a;
+    };
+    let Answer::Is(q) = b else {
+        return b;
+    };
+    difference(p, q)
 }
 
 pub(crate) fn product_of(a: Answer, b: Answer) -> Answer
     requires { ⌜ in-order a × in-order b ⌝ }
     ensures { λ r. ⌜ (figures r ≡ answers .product (figures a) (figures b)) × in-order r ⌝ }
 {
-    match a {
-        Answer::Is(p) => match b {
-            Answer::Is(q) => product(p, q),
-            Answer::Refused(why) => Answer::Refused(why),
-        },
-        Answer::Refused(why) => Answer::Refused(why),
-    }
+    let Answer::Is(p) = a else {
+        return a;
+    };
+    let Answer::Is(q) = b else {
+        return b;
+    };
+    product(p, q)
 }
 
 pub(crate) fn quotient_of(a: Answer, b: Answer) -> Answer
     requires { ⌜ in-order a × in-order b ⌝ }
     ensures { λ r. ⌜ (figures r ≡ answers .quotient (figures a) (figures b)) × in-order r ⌝ }
 {
-    match a {
-        Answer::Is(p) => match b {
-            Answer::Is(q) => quotient(p, q),
-            Answer::Refused(why) => Answer::Refused(why),
-        },
-        Answer::Refused(why) => Answer::Refused(why),
-    }
+    let Answer::Is(p) = a else {
+        return a;
+    };
+    let Answer::Is(q) = b else {
+        return b;
+    };
+    quotient(p, q)
 }
 
 pub(crate) fn times_of(a: Answer, n: u64) -> Answer
     requires { ⌜ in-order a ⌝ }
     ensures { λ r. ⌜ (figures r ≡ answers .times (figures a) n) × in-order r ⌝ }
 {
-    match a {
-        Answer::Is(p) => times(p, n),
-        Answer::Refused(why) => Answer::Refused(why),
-    }
+    let Answer::Is(p) = a else {
+        return a;
+    };
+    times(p, n)
 }
 
 pub(crate) fn over_of(a: Answer, n: u64) -> Answer
     requires { ⌜ in-order a ⌝ }
     ensures { λ r. ⌜ (figures r ≡ answers .over (figures a) n) × in-order r ⌝ }
 {
-    match a {
-        Answer::Is(p) => over(p, n),
-        Answer::Refused(why) => Answer::Refused(why),
-    }
+    let Answer::Is(p) = a else {
+        return a;
+    };
+    over(p, n)
 }
 
 pub(crate) fn root_of(a: Answer) -> Answer
     requires { ⌜ in-order a ⌝ }
     ensures { λ r. ⌜ (figures r ≡ answers .root (figures a)) × in-order r ⌝ }
 {
-    match a {
-        Answer::Is(p) => root(p),
-        Answer::Refused(why) => Answer::Refused(why),
-    }
+    let Answer::Is(p) = a else {
+        return a;
+    };
+    root(p)
 }
 
 pub(crate) fn fifth_root_of(a: Answer) -> Answer
     requires { ⌜ in-order a ⌝ }
     ensures { λ r. ⌜ (figures r ≡ answers .fifth-root (figures a)) × in-order r ⌝ }
 {
-    match a {
-        Answer::Is(p) => fifth_root(p),
-        Answer::Refused(why) => Answer::Refused(why),
-    }
+    let Answer::Is(p) = a else {
+        return a;
+    };
+    fifth_root(p)
 }
 
 pub(crate) fn atan_of(a: Answer) -> Answer
     requires { ⌜ in-order a ⌝ }
     ensures { λ r. ⌜ (figures r ≡ series.atan answers (figures a)) × in-order r ⌝ }
 {
-    match a {
-        Answer::Is(p) => atan(p),
-        Answer::Refused(why) => Answer::Refused(why),
-    }
+    let Answer::Is(p) = a else {
+        return a;
+    };
+    atan(p)
 }
 
 pub(crate) fn exp_neg_of(a: Answer) -> Answer
     requires { ⌜ in-order a ⌝ }
     ensures { λ r. ⌜ (figures r ≡ series.exp-neg answers (figures a)) × in-order r ⌝ }
 {
-    match a {
-        Answer::Is(p) => exp_neg(p),
-        Answer::Refused(why) => Answer::Refused(why),
-    }
+    let Answer::Is(p) = a else {
+        return a;
+    };
+    exp_neg(p)
 }
 
 fn larger(a: u64, b: u64) -> u64
@@ -143,16 +143,16 @@ pub(crate) fn larger_of(a: Answer, b: Answer) -> Answer
     requires { ⌜ in-order a × in-order b ⌝ }
     ensures { λ r. ⌜ (figures r ≡ answers .larger (figures a) (figures b)) × in-order r ⌝ }
 {
-    match a {
-        Answer::Is(p) => match b {
-            Answer::Is(q) => Answer::Is(Pair {
-                low: larger(p.low, q.low),
-                high: larger(p.high, q.high),
-            }),
-            Answer::Refused(why) => Answer::Refused(why),
-        },
-        Answer::Refused(why) => Answer::Refused(why),
-    }
+    let Answer::Is(p) = a else {
+        return a;
+    };
+    let Answer::Is(q) = b else {
+        return b;
+    };
+    Answer::Is(Pair {
+        low: larger(p.low, q.low),
+        high: larger(p.high, q.high),
+    })
 }
 
 // An exact pair.

@@ -1,6 +1,6 @@
 -- `fuel_within` meets its contract: one test after the other.
 -- Assumes nothing.
-use mathlib.Core.Path.{_≡_, refl, sym, ap, ap₂, _∙_}
+use mathlib.Core.Path.{_≡_, refl, sym, _∙_}
 use mathlib.Core.Bool.{Bool, true, false, _&&_, not}
 use Rattle.chain.specs.declared.enquiry.Enquiry.{Enquiry}
 use Rattle.chain.specs.Flux.{outside, fuel-within}

@@ -1,15 +1,10 @@
 -- `factor` meets its contract: 21, 22, 23, and inside the limits no operation refuses.
 -- Assumes nothing.
-use mathlib.Core.Path.{_≡_, refl, sym, ap, ap₂, _∙_}
-use Prim.Native.Nat.{ℕ, zero, suc, _+_, _*_, _-_, _/_, _%_, _^_, _≤_, _<_}
-use mathlib.Core.Bool.{Bool, true, false, _&&_, not}
-use native.Mathlib.Omega.{arith}
-use Rattle.pairs.specs.declared.answer.Pair.{Pair}
-use Rattle.pairs.specs.declared.answer.Refusal.{Refusal}
-use Rattle.pairs.specs.declared.answer.Answer.{Answer}
-use Rattle.pairs.specs.declared.answer.Answer.the-variants.{Is, Refused}
+use mathlib.Core.Path.{_≡_, sym, ap, ap₂, _∙_}
+use Prim.Native.Nat.{ℕ}
+use mathlib.Core.Bool.{Bool, true, false}
 use Rattle.pairs.specs.Rounded.{ends, rounded}
-use Rattle.pairs.specs.Figures.{Figures, given, refused, figures, number-of}
+use Rattle.pairs.specs.Figures.{Figures, given, refused}
 use Rattle.pairs.specs.Answers.{answers}
 use Rattle.chain.specs.Chain as chain
 use Rattle.chain.specs.Flux.{outside}

@@ -1,7 +1,7 @@
 -- `height_angle` meets its contract: the step's operations, one by one.
 -- Assumes nothing.
-use mathlib.Core.Path.{_≡_, refl, sym, ap, _∙_}
-use Rattle.pairs.specs.Rounded as R
+use mathlib.Core.Path.{refl, ap, ap₂, _∙_}
+use Rattle.pairs.specs.Series.{atan}
 use Rattle.pairs.specs.Answers as A
 use Rattle.chain.specs.Chain as chain
 use borrow.Author.Needs.{needs}
@@ -31,7 +31,12 @@ quotient-of-requires-2 c κs = search needs
 
 returns : tie.Need-returns
 unfolding chain.height-angle
-returns c = (cc, c .quotient-of2 .ensures .1)
+returns c =
+    let s = c .before .before .before .before in
+    let mean = s .root-of .ensures .0 ∙ ap A.root (s .before .product-of .ensures .0 ∙ ap₂ A.product refl (s .before .before .g-of .ensures .0)) in
+    let height = c .before .before .before .quotient-of .ensures .0 ∙ ap₂ A.quotient refl mean in
+    let angle = c .before .before .atan-of .ensures .0 ∙ ap (atan A.answers) height in
+    (c .quotient-of2 .ensures .0 ∙ ap₂ A.quotient angle (c .before .x-of .ensures .0), c .quotient-of2 .ensures .1)
 
 pub height-angle-spec : {M : Type 1} → statement M
 height-angle-spec =

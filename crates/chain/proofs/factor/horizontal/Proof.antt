@@ -1,7 +1,7 @@
 -- `horizontal` meets its contract: the step's operations, one by one.
 -- Assumes nothing.
-use mathlib.Core.Path.{_≡_, refl, sym, ap, _∙_}
-use Rattle.pairs.specs.Rounded as R
+use mathlib.Core.Path.{refl, ap, ap₂, _∙_}
+use Rattle.pairs.specs.Series.{atan}
 use Rattle.pairs.specs.Answers as A
 use Rattle.chain.specs.Chain as chain
 use borrow.Author.Needs.{needs}
@@ -46,7 +46,16 @@ quotient-of-requires-3 c κs = search needs
 
 returns : tie.Need-returns
 unfolding chain.horizontal chain.horizontal-ratio
-returns c = (cc, c .quotient-of3 .ensures .1)
+returns c =
+    let s = c .before .before .before .before .before .before .before in
+    let g = s .before .before .before .before .g-of .ensures .0 in
+    let squares = s .before .sum-of .ensures .0 ∙ ap₂ A.sum (s .before .before .before .product-of .ensures .0) (s .before .before .product-of2 .ensures .0 ∙ ap₂ A.product refl g) in
+    let ratio = s .quotient-of .ensures .0 ∙ ap₂ A.quotient squares (s .before .before .before .before .before .pre .1 .product .0) in
+    let root = c .before .before .before .before .before .root-of .ensures .0 ∙ ap A.root (c .before .before .before .before .before .before .quotient-of2 .ensures .0 ∙ ap₂ A.quotient g refl) in
+    let angle = c .before .before .before .before .atan-of .ensures .0 ∙ ap (atan A.answers) root in
+    let tilted = c .before .before .before .product-of3 .ensures .0 ∙ ap₂ A.product ratio (s .before .before .before .before .before .pre .1 .tilt .0) in
+    let left = c .before .before .difference-of .ensures .0 ∙ ap₂ A.difference angle tilted in
+    (c .quotient-of3 .ensures .0 ∙ ap₂ A.quotient left (c .before .pi-answer .ensures .0), c .quotient-of3 .ensures .1)
 
 pub horizontal-spec : {M : Type 1} → statement M
 horizontal-spec =

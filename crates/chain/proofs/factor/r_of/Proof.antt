@@ -1,7 +1,6 @@
 -- `r_of` meets its contract: the step's operations, one by one.
 -- Assumes nothing.
-use mathlib.Core.Path.{_≡_, refl, sym, ap, _∙_}
-use Rattle.pairs.specs.Rounded as R
+use mathlib.Core.Path.{refl, ap, ap₂, _∙_}
 use Rattle.pairs.specs.Answers as A
 use Rattle.chain.specs.Chain as chain
 use borrow.Author.Needs.{needs}
@@ -19,7 +18,9 @@ root-of-requires c κs = search needs
 
 returns : tie.Need-returns
 unfolding chain.r
-returns c = (cc, c .root-of .ensures .1)
+returns c =
+    let over-g = c .before .quotient-of .ensures .0 ∙ ap₂ A.quotient refl (c .before .before .g-of .ensures .0) in
+    (c .root-of .ensures .0 ∙ ap A.root over-g, c .root-of .ensures .1)
 
 pub r-of-spec : {M : Type 1} → statement M
 r-of-spec = tie.close (tie.spec g-of-requires quotient-of-requires root-of-requires returns)

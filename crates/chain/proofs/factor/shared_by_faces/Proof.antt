@@ -1,20 +1,15 @@
 -- `shared_by_faces` meets its contract: the step's operations, one by one.
 -- Assumes nothing.
-use mathlib.Core.Path.{_≡_, refl, sym, ap, ap₂, _∙_}
-use Rattle.pairs.specs.Figures.{Figures}
+use mathlib.Core.Path.{ap, ap₂, _∙_}
 use Rattle.pairs.specs.Series.{atan}
-use Rattle.pairs.specs.Rounded as R
 use Rattle.pairs.specs.Answers as A
 use Rattle.chain.specs.Chain as chain
 use borrow.Author.Needs.{needs}
 use Rattle.chain.proofs.factor.shared_by_faces.Statement.{statement}
 use Rattle.chain.proofs.factor.shared_by_faces.Tie as tie
 
-tilted :
-    (l e r u v p q a : Figures) → r ≡ chain.r A.answers e → u ≡ chain.u A.answers l e → v ≡ chain.v A.answers l e → p ≡ A.product r u
-    → q ≡ A.quotient p v → a ≡ atan A.answers q → a ≡ chain.tilt A.answers l e
-unfolding chain.tilt
-tilted l e r u v p q a f g h i j k = cc
+r-of-requires : tie.Need-r-of-requires
+r-of-requires c κs = search needs
 
 u-of-requires : tie.Need-u-of-requires
 u-of-requires c κs = search needs
@@ -24,9 +19,6 @@ v-of-requires c κs = search needs
 
 product-of-requires : tie.Need-product-of-requires
 product-of-requires c κs = search needs
-
-r-of-requires : tie.Need-r-of-requires
-r-of-requires c κs = search needs
 
 product-of-requires-2 : tie.Need-product-of-requires-2
 product-of-requires-2 c κs = search needs
@@ -39,21 +31,26 @@ atan-of-requires c κs = search needs
 
 returns : tie.Need-returns
 unfolding chain.tilt
-returns c = let s = c .before .before .before .before in
+returns c =
+    let s = c .before .before .before in
+    let v = s .before .v-of .ensures .0 in
     let u = s .before .before .u-of .ensures .0 in
-    let v = s .before .v-of .ensures .0 in (
-      (s .product-of .ensures .0 ∙ ap₂ A.product u v, s .product-of .ensures .1),
-      (tilted _ _ _ _ _ _ _ _ (c .before .before .before .r-of .ensures .0) u v (c .before .before .product-of2 .ensures .0) (c .before .quotient-of .ensures .0) (c .atan-of .ensures .0), c .atan-of .ensures .1),
-    )
+    let r = s .before .before .before .r-of .ensures in
+    let over-v = c .before .quotient-of .ensures .0 ∙ ap₂ A.quotient (c .before .before .product-of2 .ensures .0 ∙ ap₂ A.product (r .0) u) v in
+    record {
+      r = r;
+      product = (s .product-of .ensures .0 ∙ ap₂ A.product u v, s .product-of .ensures .1);
+      tilt = (c .atan-of .ensures .0 ∙ ap (atan A.answers) over-v, c .atan-of .ensures .1);
+    }
 
 pub shared-by-faces-spec : {M : Type 1} → statement M
 shared-by-faces-spec =
     tie.close
     (tie.spec
+    r-of-requires
     u-of-requires
     v-of-requires
     product-of-requires
-    r-of-requires
     product-of-requires-2
     quotient-of-requires
     atan-of-requires

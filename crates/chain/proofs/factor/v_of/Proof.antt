@@ -1,7 +1,6 @@
 -- `v_of` meets its contract: the step's operations, one by one.
 -- Assumes nothing.
-use mathlib.Core.Path.{_≡_, refl, sym, ap, _∙_}
-use Rattle.pairs.specs.Rounded as R
+use mathlib.Core.Path.{ap, ap₂, _∙_}
 use Rattle.pairs.specs.Answers as A
 use Rattle.chain.specs.Chain as chain
 use borrow.Author.Needs.{needs}
@@ -22,7 +21,10 @@ root-of-requires c κs = search needs
 
 returns : tie.Need-returns
 unfolding chain.v
-returns c = (cc, c .root-of .ensures .1)
+returns c =
+    let s = c .before in
+    let squares = s .sum-of .ensures .0 ∙ ap₂ A.sum (s .before .before .product-of .ensures .0) (s .before .product-of2 .ensures .0) in
+    (c .root-of .ensures .0 ∙ ap A.root squares, c .root-of .ensures .1)
 
 pub v-of-spec : {M : Type 1} → statement M
 v-of-spec =

@@ -1,6 +1,6 @@
 -- `vertical_ratio` meets its contract: the step's operations, one by one.
 -- Assumes nothing.
-use mathlib.Core.Path.{_≡_, refl, sym, ap, _∙_}
+use mathlib.Core.Path.{ap₂, _∙_}
 use Rattle.pairs.specs.Rounded as R
 use Rattle.pairs.specs.Answers as A
 use Rattle.chain.specs.Chain as chain
@@ -31,7 +31,12 @@ quotient-of-requires c κs = search needs
 
 returns : tie.Need-returns
 unfolding chain.vertical-ratio A.constant A.fitting R.constant
-returns c = (cc, c .quotient-of .ensures .1)
+returns c =
+    let s = c .before .before .before in
+    let x = s .before .before .before .x-of .ensures .0 in
+    let squares = s .sum-of .ensures .0 ∙ ap₂ A.sum (s .before .before .product-of .ensures .0) (s .before .product-of2 .ensures .0 ∙ ap₂ A.product x x) in
+    let above = c .before .sum-of2 .ensures .0 ∙ ap₂ A.sum squares (c .before .before .exact .ensures .0) in
+    (c .quotient-of .ensures .0 ∙ ap₂ A.quotient above (s .before .before .before .before .pre .1 .product .0), c .quotient-of .ensures .1)
 
 pub vertical-ratio-spec : {M : Type 1} → statement M
 vertical-ratio-spec =

@@ -1,6 +1,6 @@
 -- `x_of` meets its contract: the step's operations, one by one.
 -- Assumes nothing.
-use mathlib.Core.Path.{_≡_, refl, sym, ap, _∙_}
+use mathlib.Core.Path.{refl, ap₂, _∙_}
 use Rattle.pairs.specs.Rounded as R
 use Rattle.pairs.specs.Answers as A
 use Rattle.chain.specs.Chain as chain
@@ -16,7 +16,7 @@ sum-of-requires c κs = search needs
 
 returns : tie.Need-returns
 unfolding chain.x A.constant A.fitting R.constant
-returns c = (cc, c .sum-of .ensures .1)
+returns c = (c .sum-of .ensures .0 ∙ ap₂ A.sum (c .before .exact .ensures .0) refl, c .sum-of .ensures .1)
 
 pub x-of-spec : {M : Type 1} → statement M
 x-of-spec = tie.close (tie.spec exact-requires sum-of-requires returns)

@@ -1,15 +1,9 @@
 -- `flux` meets its contract: 11 to 15 in their order, then what is within the limits.
 -- Assumes nothing.
-use mathlib.Core.Path.{_≡_, refl, sym, ap, ap₂, _∙_}
-use Prim.Native.Nat.{ℕ, zero, suc, _+_, _*_, _-_, _/_, _%_, _^_, _≤_, _<_}
-use mathlib.Core.Bool.{Bool, true, false, _&&_, not}
+use mathlib.Core.Path.{_≡_, sym, ap, _∙_}
+use mathlib.Core.Bool.{true, false, not}
 use Rattle.chain.specs.declared.enquiry.Enquiry.{Enquiry}
-use Rattle.pairs.specs.declared.answer.Pair.{Pair}
-use Rattle.pairs.specs.Rounded.{U, down, up, rounded}
-use Rattle.pairs.specs.Figures.{Figures, figures, given}
-use Rattle.pairs.specs.Answers.{answers}
-use Rattle.chain.specs.Chain as chain
-use Rattle.chain.specs.Flux.{Shown, refused, outside, fuel-within, flame-too-low, low-of, high-of, note-of, flux-of}
+use Rattle.chain.specs.Flux.{refused, outside, fuel-within, flux-of}
 use borrow.Author.Needs.{needs}
 use Rattle.chain.proofs.flux.flux.Statement.{statement}
 use Rattle.chain.proofs.flux.flux.Tie as tie
@@ -92,7 +86,13 @@ flux-within-requires c κs = let e5 = c in
     let e3 = e4 .before .before .before in
     let e2 = e3 .before .before .before in
     let e1 = e2 .before .before .before in
-    (ap not (sym (e1 .before .fuel-within .ensures)) ∙ e1 .if1 .left, sym (e2 .before .outside .ensures) ∙ e2 .if2 .left, sym (e3 .before .outside2 .ensures) ∙ e3 .if3 .left, sym (e4 .before .outside3 .ensures) ∙ e4 .if4 .left, sym (e5 .before .outside4 .ensures) ∙ e5 .if5 .left)
+    record {
+      fuel = ap not (sym (e1 .before .fuel-within .ensures)) ∙ e1 .if1 .left;
+      area = sym (e2 .before .outside .ensures) ∙ e2 .if2 .left;
+      method = sym (e3 .before .outside2 .ensures) ∙ e3 .if3 .left;
+      distance = sym (e4 .before .outside3 .ensures) ∙ e4 .if4 .left;
+      face = sym (e5 .before .outside4 .ensures) ∙ e5 .if5 .left;
+    }
 
 returns-6 : tie.Need-returns-6
 returns-6 c = search needs

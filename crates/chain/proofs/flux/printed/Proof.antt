@@ -1,8 +1,8 @@
 -- `printed` meets its contract: 1000 over U is one over 10^9.
 -- Assumes nothing.
-use mathlib.Core.Path.{_≡_, refl, sym, ap, ap₂, _∙_}
-use Prim.Native.Nat.{ℕ, zero, suc, _+_, _*_, _-_, _/_, _%_, _^_, _≤_, _<_}
-use mathlib.Core.Bool.{Bool, true, false, _&&_, not}
+use mathlib.Core.Path.{_≡_, refl}
+use Prim.Native.Nat.{ℕ, _+_, _*_, _/_}
+use mathlib.Core.Bool.{Bool, true, false, _&&_}
 use native.Mathlib.Omega.{arith}
 use lib.Dec.{leb, eqb}
 use borrow.Author.Tests.{eq-eqb, ne-eqb, le-leb, lt-leb}
@@ -35,13 +35,16 @@ cast-high : tie.Need-cast-high
 cast-high c = search needs
 
 returns : tie.Need-returns
-returns c = let a = c .before .before .before .before .args in (low-is _, high-is _, note-is (a .method) (a .q .low / 1_000_000_000) (a .q .low) true true (low-is (a .q .low)) (eq-eqb _ 1 (c .before .if1 .taken)) (le-leb _ 5000 (c .if2 .taken)))
+returns c = let a = c .before .before .before .before .args in
+    record { low = low-is _; high = high-is _; note = note-is (a .method) (a .q .low / 1_000_000_000) (a .q .low) true true (low-is (a .q .low)) (eq-eqb _ 1 (c .before .if1 .taken)) (le-leb _ 5000 (c .if2 .taken)) }
 
 returns-2 : tie.Need-returns-2
-returns-2 c = let a = c .before .before .before .before .args in (low-is _, high-is _, note-is (a .method) (a .q .low / 1_000_000_000) (a .q .low) true false (low-is (a .q .low)) (eq-eqb _ 1 (c .before .if1 .taken)) (lt-leb _ 5000 (c .if2 .left)))
+returns-2 c = let a = c .before .before .before .before .args in
+    record { low = low-is _; high = high-is _; note = note-is (a .method) (a .q .low / 1_000_000_000) (a .q .low) true false (low-is (a .q .low)) (eq-eqb _ 1 (c .before .if1 .taken)) (lt-leb _ 5000 (c .if2 .left)) }
 
 returns-3 : tie.Need-returns-3
-returns-3 c = let a = c .before .before .before .args in (low-is _, high-is _, note-is (a .method) (a .q .low / 1_000_000_000) (a .q .low) false _ (low-is (a .q .low)) (ne-eqb _ 1 (c .if1 .left)) refl)
+returns-3 c = let a = c .before .before .before .args in
+    record { low = low-is _; high = high-is _; note = note-is (a .method) (a .q .low / 1_000_000_000) (a .q .low) false _ (low-is (a .q .low)) (ne-eqb _ 1 (c .if1 .left)) refl }
 
 pub printed-spec : {M : Type 1} → statement M
 printed-spec = tie.close (tie.spec cast-low add-high cast-high returns returns-2 returns-3)

@@ -1,27 +1,20 @@
 -- `radiant_flux` meets its contract: steps 6 to 8, one operation after the other.
 -- Assumes nothing.
-use mathlib.Core.Path.{_≡_, refl, sym, ap, ap₂, _∙_}
-use Prim.Native.Nat.{ℕ, zero, suc, _+_, _*_, _-_, _/_, _%_, _^_, _≤_, _<_}
+use mathlib.Core.Path.{_≡_, _∙_}
+use Prim.Native.Nat.{ℕ, _*_, _^_, _≤_, _<_}
 use native.Mathlib.Omega.{arith}
 use Rattle.chain.specs.declared.enquiry.Enquiry.{Enquiry}
-use Rattle.pairs.specs.Rounded as R
-use Rattle.pairs.specs.Rounded.{U, ends}
-use Rattle.pairs.specs.Figures.{Figures, given}
+use Rattle.pairs.specs.Figures.{Figures}
 use Rattle.pairs.specs.Answers as A
 use Rattle.pairs.specs.Answers.{answers}
-use Rattle.pairs.proofs.Agreement.{fitting-given}
 use Rattle.chain.specs.Chain as chain
+use Rattle.chain.proofs.Constants.{thousandths}
 use borrow.Author.Needs.{needs}
 use Rattle.chain.proofs.flux.radiant_flux.Statement.{statement}
 use Rattle.chain.proofs.flux.radiant_flux.Tie as tie
 
--- d/1000 in trillionths
-rim : (d : ℕ) → d ≤ 200_000 → given (ends (d * 1_000_000_000) (d * 1_000_000_000)) ≡ A.constant d 1000
-unfolding A.constant R.constant
-rim d h = rw (thousandth d) (sym (fitting-given (ends (d * 1_000_000_000) (d * 1_000_000_000)) (omega arith)))
-  where
-    thousandth : (n : ℕ) → n * U / 1000 ≡ n * 1_000_000_000
-    thousandth n = omega arith
+fits : {d : ℕ} → d ≤ 200_000 → d * 1_000_000_000 < 2 ^ 64
+fits h = omega arith
 
 worked :
     (E : Enquiry) (d h r l n x p f g : Figures) → d ≡ chain.diameter answers E → h ≡ chain.flame-height answers E → r ≡ A.over d 2
@@ -59,7 +52,7 @@ product-of-requires c κs = search needs
 
 returns : tie.Need-returns
 returns c = let s = c .before .before .before .before .before .before .before .before in (
-  worked _ _ _ _ _ _ _ _ _ _ (s .pre .0 .0) (s .pre .1 .1 .0 .0) (c .before .before .before .before .before .before .over-of .ensures .0) (c .before .before .before .before .before .quotient-of .ensures .0) (c .before .before .before .before .exact .ensures .0 ∙ rim (s .args .e .distance) (s .pre .1 .1 .1)) (c .before .before .before .quotient-of2 .ensures .0) (c .before .before .emissive-power .ensures .0) (c .before .factor-of .ensures .0) (c .product-of .ensures .0),
+  worked _ _ _ _ _ _ _ _ _ _ (s .pre .0 .0) (s .pre .1 .1 .0 .0) (c .before .before .before .before .before .before .over-of .ensures .0) (c .before .before .before .before .before .quotient-of .ensures .0) (c .before .before .before .before .exact .ensures .0 ∙ thousandths (s .args .e .distance) (fits (s .pre .1 .1 .1))) (c .before .before .before .quotient-of2 .ensures .0) (c .before .before .emissive-power .ensures .0) (c .before .factor-of .ensures .0) (c .product-of .ensures .0),
   c .product-of .ensures .1,
 )
 

@@ -1,18 +1,14 @@
 -- `too_low` meets its contract: 4·L.low is under D.high where L.low is under D.high over 4, rounded up.
 -- Assumes nothing.
-use mathlib.Core.Path.{_≡_, refl, sym, ap, ap₂, _∙_}
-use Prim.Native.Nat.{ℕ, zero, suc, _+_, _*_, _-_, _/_, _%_, _^_, _≤_, _<_}
-use mathlib.Core.Bool.{Bool, true, false, _&&_, not}
+use mathlib.Core.Path.{_≡_, sym, ap₂, _∙_}
+use Prim.Native.Nat.{ℕ, _+_, _*_, _/_, _%_}
 use native.Mathlib.Omega.{arith}
 use native.Mathlib.Decide.{decLt}
 use lib.Dec.{ltb}
 use borrow.Author.Tests.{lt-ltb, le-ltb}
 use Rattle.pairs.specs.declared.answer.Pair.{Pair}
-use Rattle.pairs.specs.declared.answer.Refusal.{Refusal}
-use Rattle.pairs.specs.declared.answer.Answer.{Answer}
-use Rattle.pairs.specs.declared.answer.Answer.the-variants.{Is, Refused}
 use Rattle.pairs.specs.Rounded.{rounded}
-use Rattle.pairs.specs.Figures.{figures, given}
+use Rattle.pairs.specs.Figures.{given}
 use Rattle.chain.specs.Chain as chain
 use Rattle.chain.specs.Flux.{flame-too-low}
 use Rattle.chain.proofs.Given.{gives, never-refused}

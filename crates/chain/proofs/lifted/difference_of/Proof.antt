@@ -1,6 +1,5 @@
 -- `difference_of` meets its contract: pairs in order have passed 61, and the first refusal stays.
 -- Assumes nothing.
-use Prim.Native.Nat.{zero-le}
 use Rattle.pairs.specs.Answers as A
 use Rattle.pairs.proofs.Agreement.{agreement, admitted-agrees}
 use Rattle.pairs.proofs.Lifted.{answer-in-order, passed-61, stays, stays-second}
@@ -11,42 +10,43 @@ use Rattle.chain.proofs.lifted.difference_of.Tie as tie
 enum-known-a : tie.Need-enum-known-a
 enum-known-a c = search needs
 
+enum-told : tie.Need-enum-told
+enum-told c = search needs
+
+returns : tie.Need-returns
+unfolding A.difference
+returns c = (stays _ _ _ (c .enum-told .given .1), c .before .before .pre .0)
+
 enum-known-b : tie.Need-enum-known-b
 enum-known-b c = search needs
+
+enum-told-2 : tie.Need-enum-told-2
+enum-told-2 c = search needs
+
+returns-2 : tie.Need-returns-2
+unfolding A.difference
+returns-2 c = let k = c .before .before .before in
+    (stays-second _ _ _ _ _ (k .a .given .1) (c .enum-told2 .given .1), k .before .before .pre .1)
 
 difference-requires : tie.Need-difference-requires
 difference-requires c κs = search needs
 
-enum-known-b-2 : tie.Need-enum-known-b-2
-enum-known-b-2 c = search needs
-
-enum-known-a-2 : tie.Need-enum-known-a-2
-enum-known-a-2 c = search needs
-
-returns : tie.Need-returns
-returns c = let s = c .before .before .before .before .before .before .before in (
+returns-3 : tie.Need-returns-3
+returns-3 c = let s = c .before .before .before .before .before .before .before in (
   rw (passed-61 _ _ (s .pre .0) (c .before .before .before .before .before .a .given .1), passed-61 _ _ (s .pre .1) (c .before .before .b .given .1))
       (c .difference .ensures),
   answer-in-order (c .difference .result) (c .difference .ensures) (agreement .difference (admitted-agrees _) (admitted-agrees _)),
 )
-
-returns-2 : tie.Need-returns-2
-unfolding A.difference
-returns-2 c = (stays-second _ _ _ _ _ (c .before .before .before .before .a .given .1) (c .before .b2 .given .1), zero-le)
-
-returns-3 : tie.Need-returns-3
-unfolding A.difference
-returns-3 c = (stays _ _ _ (c .before .a2 .given .1), zero-le)
 
 pub difference-of-spec : {M : Type 1} → statement M
 difference-of-spec =
     tie.close
     (tie.spec
     enum-known-a
-    enum-known-b
-    difference-requires
-    enum-known-b-2
-    enum-known-a-2
+    enum-told
     returns
+    enum-known-b
+    enum-told-2
     returns-2
+    difference-requires
     returns-3)

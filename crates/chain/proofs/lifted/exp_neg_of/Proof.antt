@@ -1,6 +1,5 @@
 -- `exp_neg_of` meets its contract: pairs in order have passed 61, and the first refusal stays.
 -- Assumes nothing.
-use Prim.Native.Nat.{zero-le}
 use Rattle.pairs.specs.Answers.{answers}
 use Rattle.pairs.specs.Series as series
 use Rattle.pairs.proofs.Agreement.{agreement, admitted-agrees}
@@ -14,21 +13,21 @@ use Rattle.chain.proofs.lifted.exp_neg_of.Tie as tie
 enum-known-a : tie.Need-enum-known-a
 enum-known-a c = search needs
 
+enum-told : tie.Need-enum-told
+enum-told c = search needs
+
+returns : tie.Need-returns
+returns c = (stays-in (series.exp-neg answers) exp-refused _ _ (c .enum-told .given .1), c .before .before .pre)
+
 exp-neg-requires : tie.Need-exp-neg-requires
 exp-neg-requires c κs = search needs
 
-enum-known-a-2 : tie.Need-enum-known-a-2
-enum-known-a-2 c = search needs
-
-returns : tie.Need-returns
-returns c = (
+returns-2 : tie.Need-returns-2
+returns-2 c = (
   rw (passed-61 _ _ (c .before .before .before .before .pre) (c .before .before .a .given .1)) (c .exp-neg .ensures),
   answer-in-order (c .exp-neg .result) (c .exp-neg .ensures) (exp-neg-kept agreement (admitted-agrees _)),
 )
 
-returns-2 : tie.Need-returns-2
-returns-2 c = (stays-in (series.exp-neg answers) exp-refused _ _ (c .before .a2 .given .1), zero-le)
-
 pub exp-neg-of-spec : {M : Type 1} → statement M
 exp-neg-of-spec =
-    tie.close (tie.spec enum-known-a exp-neg-requires enum-known-a-2 returns returns-2)
+    tie.close (tie.spec enum-known-a enum-told returns exp-neg-requires returns-2)

@@ -1,6 +1,5 @@
 -- `fifth_root_of` meets its contract: pairs in order have passed 61, and the first refusal stays.
 -- Assumes nothing.
-use Prim.Native.Nat.{zero-le}
 use Rattle.pairs.specs.Answers as A
 use Rattle.pairs.proofs.Agreement.{agreement, admitted-agrees}
 use Rattle.pairs.proofs.Lifted.{answer-in-order, passed-61, stays}
@@ -11,22 +10,22 @@ use Rattle.chain.proofs.lifted.fifth_root_of.Tie as tie
 enum-known-a : tie.Need-enum-known-a
 enum-known-a c = search needs
 
+enum-told : tie.Need-enum-told
+enum-told c = search needs
+
+returns : tie.Need-returns
+unfolding A.fifth-root
+returns c = (stays _ _ _ (c .enum-told .given .1), c .before .before .pre)
+
 fifth-root-requires : tie.Need-fifth-root-requires
 fifth-root-requires c κs = search needs
 
-enum-known-a-2 : tie.Need-enum-known-a-2
-enum-known-a-2 c = search needs
-
-returns : tie.Need-returns
-returns c = (
+returns-2 : tie.Need-returns-2
+returns-2 c = (
   rw (passed-61 _ _ (c .before .before .before .before .pre) (c .before .before .a .given .1)) (c .fifth-root .ensures),
   answer-in-order (c .fifth-root .result) (c .fifth-root .ensures) (agreement .fifth-root (admitted-agrees _)),
 )
 
-returns-2 : tie.Need-returns-2
-unfolding A.fifth-root
-returns-2 c = (stays _ _ _ (c .before .a2 .given .1), zero-le)
-
 pub fifth-root-of-spec : {M : Type 1} → statement M
 fifth-root-of-spec =
-    tie.close (tie.spec enum-known-a fifth-root-requires enum-known-a-2 returns returns-2)
+    tie.close (tie.spec enum-known-a enum-told returns fifth-root-requires returns-2)

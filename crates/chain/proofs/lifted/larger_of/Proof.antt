@@ -1,7 +1,7 @@
 -- `larger_of` meets its contract: the larger ends of two pairs in order are in order, and fit.
 -- Assumes nothing.
-use mathlib.Core.Path.{_≡_, refl, sym, ap, _∙_}
-use Prim.Native.Nat.{ℕ, _^_, _≤_, _<_, max, zero-le}
+use mathlib.Core.Path.{_≡_, sym}
+use Prim.Native.Nat.{ℕ, _^_, _≤_, _<_, max}
 use native.Mathlib.Omega.{arith}
 use Rattle.pairs.specs.declared.answer.Pair.{Pair}
 use Rattle.pairs.specs.declared.answer.Answer.{Answer}
@@ -29,8 +29,23 @@ larger-ends a b p q l h o k e f m u v =
 enum-known-a : tie.Need-enum-known-a
 enum-known-a c = search needs
 
+enum-told : tie.Need-enum-told
+enum-told c = search needs
+
+returns : tie.Need-returns
+unfolding A.larger
+returns c = (stays _ _ _ (c .enum-told .given .1), c .before .before .pre .0)
+
 enum-known-b : tie.Need-enum-known-b
 enum-known-b c = search needs
+
+enum-told-2 : tie.Need-enum-told-2
+enum-told-2 c = search needs
+
+returns-2 : tie.Need-returns-2
+unfolding A.larger
+returns-2 c = let k = c .before .before .before in
+    (stays-second _ _ _ _ _ (k .a .given .1) (c .enum-told2 .given .1), k .before .before .pre .1)
 
 larger-requires : tie.Need-larger-requires
 larger-requires c κs = search needs
@@ -38,35 +53,21 @@ larger-requires c κs = search needs
 larger-requires-2 : tie.Need-larger-requires-2
 larger-requires-2 c κs = search needs
 
-enum-known-b-2 : tie.Need-enum-known-b-2
-enum-known-b-2 c = search needs
-
-enum-known-a-2 : tie.Need-enum-known-a-2
-enum-known-a-2 c = search needs
-
-returns : tie.Need-returns
-returns c = let s = c .before .before .before .before .before .before .before .before in
+returns-3 : tie.Need-returns-3
+returns-3 c = let s = c .before .before .before .before .before .before .before .before in
     larger-ends _ _ _ _ _ _ (s .pre .0) (s .pre .1) (c .before .before .before .before .before .before .a .given .1) (c .before .before .before .b .given .1)
     (c .larger2 .ok) (c .before .larger .ensures) (c .larger2 .ensures)
-
-returns-2 : tie.Need-returns-2
-unfolding A.larger
-returns-2 c = (stays-second _ _ _ _ _ (c .before .before .before .before .a .given .1) (c .before .b2 .given .1), zero-le)
-
-returns-3 : tie.Need-returns-3
-unfolding A.larger
-returns-3 c = (stays _ _ _ (c .before .a2 .given .1), zero-le)
 
 pub larger-of-spec : {M : Type 1} → statement M
 larger-of-spec =
     tie.close
     (tie.spec
     enum-known-a
+    enum-told
+    returns
     enum-known-b
+    enum-told-2
+    returns-2
     larger-requires
     larger-requires-2
-    enum-known-b-2
-    enum-known-a-2
-    returns
-    returns-2
     returns-3)

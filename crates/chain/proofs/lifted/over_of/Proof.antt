@@ -1,6 +1,5 @@
 -- `over_of` meets its contract: pairs in order have passed 61, and the first refusal stays.
 -- Assumes nothing.
-use Prim.Native.Nat.{zero-le}
 use Rattle.pairs.specs.Answers as A
 use Rattle.pairs.proofs.Agreement.{agreement, admitted-agrees}
 use Rattle.pairs.proofs.Lifted.{answer-in-order, passed-61, stays}
@@ -11,21 +10,22 @@ use Rattle.chain.proofs.lifted.over_of.Tie as tie
 enum-known-a : tie.Need-enum-known-a
 enum-known-a c = search needs
 
+enum-told : tie.Need-enum-told
+enum-told c = search needs
+
+returns : tie.Need-returns
+unfolding A.over
+returns c = (stays _ _ _ (c .enum-told .given .1), c .before .before .pre)
+
 over-requires : tie.Need-over-requires
 over-requires c κs = search needs
 
-enum-known-a-2 : tie.Need-enum-known-a-2
-enum-known-a-2 c = search needs
-
-returns : tie.Need-returns
-returns c = (
+returns-2 : tie.Need-returns-2
+returns-2 c = (
   rw (passed-61 _ _ (c .before .before .before .before .pre) (c .before .before .a .given .1)) (c .over .ensures),
   answer-in-order (c .over .result) (c .over .ensures) (agreement .over (admitted-agrees _) _),
 )
 
-returns-2 : tie.Need-returns-2
-unfolding A.over
-returns-2 c = (stays _ _ _ (c .before .a2 .given .1), zero-le)
-
 pub over-of-spec : {M : Type 1} → statement M
-over-of-spec = tie.close (tie.spec enum-known-a over-requires enum-known-a-2 returns returns-2)
+over-of-spec =
+    tie.close (tie.spec enum-known-a enum-told returns over-requires returns-2)

@@ -1,25 +1,20 @@
 -- `diameter` meets its contract: the step's operations, one by one.
 -- Assumes nothing.
-use mathlib.Core.Path.{_≡_, refl, sym, ap, _∙_}
-use Prim.Native.Nat.{ℕ, zero, suc, _+_, _*_, _-_, _/_, _%_, _^_, _≤_, _<_}
+use mathlib.Core.Path.{_≡_, ap, ap₂, _∙_}
+use Prim.Native.Nat.{ℕ, _*_, _≤_}
 use native.Mathlib.Omega.{arith}
-use Rattle.pairs.specs.Rounded as R
 use Rattle.pairs.specs.Answers as A
 use Rattle.chain.specs.Chain as chain
-use Rattle.pairs.specs.Rounded.{U, ends}
+use Rattle.pairs.specs.Rounded.{ends}
 use Rattle.pairs.specs.Figures.{given}
-use Rattle.pairs.proofs.Agreement.{fitting-given}
+use Rattle.chain.proofs.Constants.{exact-pair}
 use borrow.Author.Needs.{needs}
 use Rattle.chain.proofs.pool.diameter.Statement.{statement}
 use Rattle.chain.proofs.pool.diameter.Tie as tie
 
 -- 4a/100 in trillionths
 pool-area : (a : ℕ) → a ≤ 190_000 → given (ends (a * 40_000_000_000) (a * 40_000_000_000)) ≡ A.constant (4 * a) 100
-unfolding A.constant R.constant
-pool-area a h = rw (quarter a) (sym (fitting-given (ends (a * 40_000_000_000) (a * 40_000_000_000)) (omega arith)))
-  where
-    quarter : (a : ℕ) → 4 * a * U / 100 ≡ a * 40_000_000_000
-    quarter a = omega arith
+pool-area a h = exact-pair (4 * a) 100 (a * 40_000_000_000) (omega arith) (omega arith)
 
 cast-a : tie.Need-cast-a
 cast-a c = search needs
@@ -41,7 +36,11 @@ root-of-requires c κs = search needs
 
 returns : tie.Need-returns
 unfolding chain.diameter
-returns c = (cc (pool-area (c .before .before .before .before .before .args .e .area) (c .before .before .before .before .before .pre)), c .root-of .ensures .1)
+returns c =
+    let s = c .before .before .before .before .before in
+    let area = c .before .before .before .exact .ensures .0 ∙ pool-area (s .args .e .area) (s .pre) in
+    let square = c .before .quotient-of .ensures .0 ∙ ap₂ A.quotient area (c .before .before .pi-answer .ensures .0) in
+    (c .root-of .ensures .0 ∙ ap A.root square, c .root-of .ensures .1)
 
 pub diameter-spec : {M : Type 1} → statement M
 diameter-spec =

@@ -1,11 +1,10 @@
 -- `emissive_power` meets its contract: the method picks.
 -- Assumes nothing.
-use mathlib.Core.Path.{_≡_, refl, sym, ap, ap₂, _∙_}
+use mathlib.Core.Path.{_≡_, sym, ap, _∙_}
 use mathlib.Core.Bool.{Bool, true, false}
 use lib.Dec.{eqb}
 use borrow.Author.Tests.{eq-eqb, ne-eqb}
 use Rattle.chain.specs.declared.enquiry.Enquiry.{Enquiry}
-use Rattle.pairs.specs.Rounded as R
 use Rattle.pairs.specs.Answers as A
 use Rattle.chain.specs.Chain as chain
 use Rattle.pairs.specs.Figures.{Figures}

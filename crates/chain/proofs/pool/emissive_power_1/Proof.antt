@@ -1,7 +1,8 @@
 -- `emissive_power_1` meets its contract: the step's operations, one by one.
 -- Assumes nothing.
-use mathlib.Core.Path.{_≡_, refl, sym, ap, _∙_}
+use mathlib.Core.Path.{refl, ap, ap₂, _∙_}
 use Rattle.pairs.specs.Rounded as R
+use Rattle.pairs.specs.Series.{exp-neg}
 use Rattle.pairs.specs.Answers as A
 use Rattle.chain.specs.Chain as chain
 use borrow.Author.Needs.{needs}
@@ -28,7 +29,12 @@ times-of-requires c κs = search needs
 
 returns : tie.Need-returns
 unfolding chain.emissive-power-1 chain.decline A.constant A.fitting R.constant
-returns c = (cc, c .times-of .ensures .1)
+returns c =
+    let s = c .before .before .before .before in
+    let declining = s .product-of .ensures .0 ∙ ap₂ A.product (s .before .exact .ensures .0) (s .before .before .pre .0) in
+    let decline = c .before .before .product-of2 .ensures .0 ∙ ap₂ A.product declining (c .before .before .before .ln-ten-answer .ensures .0) in
+    let left = c .before .exp-neg-of .ensures .0 ∙ ap (exp-neg A.answers) decline in
+    (c .times-of .ensures .0 ∙ ap₂ A.times left refl, c .times-of .ensures .1)
 
 pub emissive-power-1-spec : {M : Type 1} → statement M
 emissive-power-1-spec =

@@ -1,6 +1,6 @@
 -- `emissive_power_2` meets its contract: the step's operations, one by one.
 -- Assumes nothing.
-use mathlib.Core.Path.{_≡_, refl, sym, ap, _∙_}
+use mathlib.Core.Path.{ap₂, _∙_}
 use Rattle.pairs.specs.Rounded as R
 use Rattle.pairs.specs.Answers as A
 use Rattle.chain.specs.Chain as chain
@@ -31,7 +31,13 @@ quotient-of-requires c κs = search needs
 
 returns : tie.Need-returns
 unfolding chain.emissive-power-2 chain.radiant-fraction A.constant A.fitting R.constant
-returns c = (cc, c .quotient-of .ensures .1)
+returns c =
+    let s = c .before .before .before in
+    let start = s .before .before .before .before in
+    let loss = s .before .product-of .ensures .0 ∙ ap₂ A.product (s .before .before .exact2 .ensures .0) (start .pre .0 .0) in
+    let fraction = s .difference-of .ensures .0 ∙ ap₂ A.difference (s .before .before .before .exact .ensures .0) loss in
+    let radiated = c .before .before .product-of2 .ensures .0 ∙ ap₂ A.product fraction (start .pre .1 .0 .0) in
+    (c .quotient-of .ensures .0 ∙ ap₂ A.quotient radiated (c .before .flame-surface .ensures .0), c .quotient-of .ensures .1)
 
 pub emissive-power-2-spec : {M : Type 1} → statement M
 emissive-power-2-spec =

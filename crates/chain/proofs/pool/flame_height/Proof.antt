@@ -1,6 +1,6 @@
 -- `flame_height` meets its contract: the step's operations, one by one.
 -- Assumes nothing.
-use mathlib.Core.Path.{_≡_, refl, sym, ap, _∙_}
+use mathlib.Core.Path.{ap, ap₂, _∙_}
 use Rattle.pairs.specs.Rounded as R
 use Rattle.pairs.specs.Answers as A
 use Rattle.chain.specs.Chain as chain
@@ -31,7 +31,14 @@ difference-of-requires c κs = search needs
 
 returns : tie.Need-returns
 unfolding chain.flame-height chain.fifth-root-of-heat A.constant A.fitting R.constant
-returns c = (cc, c .difference-of .ensures .1)
+returns c =
+    let s = c .before .before .before in
+    let start = s .before .before .before .before in
+    let root = s .before .before .before .fifth-root-of .ensures .0 ∙ ap A.fifth-root (start .pre .1 .0) in
+    let square = s .before .product-of .ensures .0 ∙ ap₂ A.product root root in
+    let plume = s .product-of2 .ensures .0 ∙ ap₂ A.product (s .before .before .exact .ensures .0) square in
+    let base = c .before .product-of3 .ensures .0 ∙ ap₂ A.product (c .before .before .exact2 .ensures .0) (start .pre .0 .0) in
+    (c .difference-of .ensures .0 ∙ ap₂ A.difference plume base, c .difference-of .ensures .1)
 
 pub flame-height-spec : {M : Type 1} → statement M
 flame-height-spec =

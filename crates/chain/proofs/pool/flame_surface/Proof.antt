@@ -1,7 +1,6 @@
 -- `flame_surface` meets its contract: the step's operations, one by one.
 -- Assumes nothing.
-use mathlib.Core.Path.{_≡_, refl, sym, ap, _∙_}
-use Rattle.pairs.specs.Rounded as R
+use mathlib.Core.Path.{refl, ap₂, _∙_}
 use Rattle.pairs.specs.Answers as A
 use Rattle.chain.specs.Chain as chain
 use borrow.Author.Needs.{needs}
@@ -31,7 +30,16 @@ sum-of-requires c κs = search needs
 
 returns : tie.Need-returns
 unfolding chain.flame-surface
-returns c = (cc, c .sum-of .ensures .1)
+returns c =
+    let s = c .before .before .before in
+    let start = s .before .before .before .before in
+    let D = start .pre .0 .0 in
+    let pi = s .before .before .before .pi-answer .ensures .0 in
+    let rim = s .before .before .product-of .ensures .0 ∙ ap₂ A.product pi D in
+    let side = s .before .product-of2 .ensures .0 ∙ ap₂ A.product rim (start .pre .1 .0) in
+    let square = s .product-of3 .ensures .0 ∙ ap₂ A.product D D in
+    let top = c .before .over-of .ensures .0 ∙ ap₂ A.over (c .before .before .product-of4 .ensures .0 ∙ ap₂ A.product pi square) refl in
+    (c .sum-of .ensures .0 ∙ ap₂ A.sum side top, c .sum-of .ensures .1)
 
 pub flame-surface-spec : {M : Type 1} → statement M
 flame-surface-spec =

@@ -1,7 +1,7 @@
 -- `heat_release` meets its contract: the step's operations, one by one.
 -- Assumes nothing.
-use mathlib.Core.Path.{_≡_, refl, sym, ap, ap₂, _∙_}
-use Prim.Native.Nat.{ℕ, zero, suc, _+_, _*_, _-_, _/_, _%_, _^_, _≤_, _<_}
+use mathlib.Core.Path.{_≡_, ap₂, _∙_}
+use Prim.Native.Nat.{ℕ, _*_, _^_, _≤_, _<_}
 use Rattle.chain.specs.declared.enquiry.Enquiry.{Enquiry}
 use native.Mathlib.Nat.{mul-le-mul}
 use native.Mathlib.Omega.{arith}
@@ -10,7 +10,7 @@ use Rattle.pairs.specs.Answers as A
 use Rattle.chain.specs.Chain as chain
 use Rattle.pairs.specs.Rounded.{U, ends}
 use Rattle.pairs.specs.Figures.{Figures, given}
-use Rattle.pairs.proofs.Agreement.{fitting-given}
+use Rattle.chain.proofs.Constants.{thousandths}
 use borrow.Author.Needs.{needs}
 use Rattle.chain.proofs.pool.heat_release.Statement.{statement}
 use Rattle.chain.proofs.pool.heat_release.Tie as tie
@@ -19,15 +19,8 @@ use Rattle.chain.proofs.pool.heat_release.Tie as tie
 most : (m c a : ℕ) → m ≤ 150 → c ≤ 500 → a ≤ 190_000 → (m * c ≤ 150 * 500) × (m * c * a ≤ 150 * 500 * 190_000)
 most m c a h k l = let p : m * c ≤ 150 * 500 = mul-le-mul h k in (p, mul-le-mul p l)
 
--- m·c·a/1000 in trillionths
-rate : (m c a : ℕ) → m ≤ 150 → c ≤ 500 → a ≤ 190_000 → given (ends (m * c * a * 1_000_000_000) (m * c * a * 1_000_000_000)) ≡ A.constant (m * c * a) 1000
-unfolding A.constant R.constant
-rate m c a h k l =
-    rw (thousandth (m * c * a))
-    (sym (fitting-given (ends (m * c * a * 1_000_000_000) (m * c * a * 1_000_000_000)) (omega (arith, most m c a h k l .1))))
-  where
-    thousandth : (n : ℕ) → n * U / 1000 ≡ n * 1_000_000_000
-    thousandth n = omega arith
+fits : (m c a : ℕ) → m ≤ 150 → c ≤ 500 → a ≤ 190_000 → m * c * a * 1_000_000_000 < 2 ^ 64
+fits m c a h k l = omega (arith, most m c a h k l .1)
 
 released :
     (E : Enquiry) (n o x d r : Figures) → n ≡ A.constant (E .rate * E .heat * E .area) 1000 → o ≡ given (ends U U) → x ≡ chain.unabsorbed A.answers E
@@ -72,7 +65,7 @@ returns : tie.Need-returns
 unfolding chain.heat-release
 returns c = let s = c .before .before .before .before .before .before .before .before in
     let e = s .args .e in (
-      released e _ _ _ _ _ (c .before .before .before .before .exact .ensures .0 ∙ rate (e .rate) (e .heat) (e .area) (s .pre .0 .0) (s .pre .0 .1) (s .pre .0 .2))
+      released e _ _ _ _ _ (c .before .before .before .before .exact .ensures .0 ∙ thousandths (e .rate * e .heat * e .area) (fits (e .rate) (e .heat) (e .area) (s .pre .0 .0) (s .pre .0 .1) (s .pre .0 .2)))
           (c .before .before .before .exact2 .ensures .0) (c .before .before .unabsorbed .ensures .0) (c .before .difference-of .ensures .0) (c .product-of .ensures .0),
       c .product-of .ensures .1,
     )

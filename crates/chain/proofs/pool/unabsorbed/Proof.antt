@@ -1,7 +1,7 @@
 -- `unabsorbed` meets its contract: the step's operations, one by one.
 -- Assumes nothing.
-use mathlib.Core.Path.{_≡_, refl, sym, ap, _∙_}
-use Rattle.pairs.specs.Rounded as R
+use mathlib.Core.Path.{refl, ap, ap₂, _∙_}
+use Rattle.pairs.specs.Series.{exp-neg}
 use Rattle.pairs.specs.Answers as A
 use Rattle.chain.specs.Chain as chain
 use borrow.Author.Needs.{needs}
@@ -22,7 +22,10 @@ exp-neg-of-requires c κs = search needs
 
 returns : tie.Need-returns
 unfolding chain.unabsorbed chain.optical-depth
-returns c = (cc, c .exp-neg-of .ensures .1)
+returns c =
+    let scaled = c .before .before .times-of .ensures .0 ∙ ap₂ A.times (c .before .before .before .before .pre .0) refl in
+    let depth = c .before .over-of .ensures .0 ∙ ap₂ A.over scaled refl in
+    (c .exp-neg-of .ensures .0 ∙ ap (exp-neg A.answers) depth, c .exp-neg-of .ensures .1)
 
 pub unabsorbed-spec : {M : Type 1} → statement M
 unabsorbed-spec =
