@@ -1,12 +1,9 @@
 -- `radiant_flux` meets its contract: steps 6 to 8, one operation after the other.
 -- Assumes nothing.
-use mathlib.Core.Path.{_≡_, _∙_}
+use mathlib.Core.Path.{refl, ap₂, _∙_}
 use Prim.Native.Nat.{ℕ, _*_, _^_, _≤_, _<_}
 use native.Mathlib.Omega.{arith}
-use Rattle.chain.specs.declared.enquiry.Enquiry.{Enquiry}
-use Rattle.pairs.specs.Figures.{Figures}
 use Rattle.pairs.specs.Answers as A
-use Rattle.pairs.specs.Answers.{answers}
 use Rattle.chain.specs.Chain as chain
 use Rattle.chain.proofs.Constants.{thousandths}
 use borrow.Author.Needs.{needs}
@@ -15,13 +12,6 @@ use Rattle.chain.proofs.flux.radiant_flux.Tie as tie
 
 fits : {d : ℕ} → d ≤ 200_000 → d * 1_000_000_000 < 2 ^ 64
 fits h = omega arith
-
-worked :
-    (E : Enquiry) (d h r l n x p f g : Figures) → d ≡ chain.diameter answers E → h ≡ chain.flame-height answers E → r ≡ A.over d 2
-    → l ≡ A.quotient h r → n ≡ A.constant (E .distance) 1000 → x ≡ A.quotient n r → p ≡ chain.emissive-power answers E
-    → f ≡ chain.factor answers (E .face) l x → g ≡ A.product p f → g ≡ chain.radiant-flux answers E
-unfolding chain.radiant-flux chain.relative-height chain.relative-distance chain.radius
-worked E d h r l n x p f g a b c i j k m o q = cc
 
 cast-millimetres : tie.Need-cast-millimetres
 cast-millimetres c = search needs
@@ -51,10 +41,16 @@ product-of-requires : tie.Need-product-of-requires
 product-of-requires c κs = search needs
 
 returns : tie.Need-returns
-returns c = let s = c .before .before .before .before .before .before .before .before in (
-  worked _ _ _ _ _ _ _ _ _ _ (s .pre .0 .0) (s .pre .1 .1 .0 .0) (c .before .before .before .before .before .before .over-of .ensures .0) (c .before .before .before .before .before .quotient-of .ensures .0) (c .before .before .before .before .exact .ensures .0 ∙ thousandths (s .args .e .distance) (fits (s .pre .1 .1 .1))) (c .before .before .before .quotient-of2 .ensures .0) (c .before .before .emissive-power .ensures .0) (c .before .factor-of .ensures .0) (c .product-of .ensures .0),
-  c .product-of .ensures .1,
-)
+unfolding chain.radiant-flux chain.relative-height chain.relative-distance chain.radius
+returns c =
+    let s = c .before .before .before .before in
+    let start = s .before .before .before .before in
+    let radius = s .before .before .over-of .ensures .0 ∙ ap₂ A.over (start .pre .0 .0) refl in
+    let l = s .before .quotient-of .ensures .0 ∙ ap₂ A.quotient (start .pre .1 .1 .0 .0) radius in
+    let rim = s .exact .ensures .0 ∙ thousandths (start .args .e .distance) (fits (start .pre .1 .1 .1)) in
+    let distance = c .before .before .before .quotient-of2 .ensures .0 ∙ ap₂ A.quotient rim radius in
+    let factor = c .before .factor-of .ensures .0 ∙ ap₂ (chain.factor A.answers (start .args .e .face)) l distance in
+    (c .product-of .ensures .0 ∙ ap₂ A.product (c .before .before .emissive-power .ensures .0) factor, c .product-of .ensures .1)
 
 pub radiant-flux-spec : {M : Type 1} → statement M
 radiant-flux-spec =

@@ -1,15 +1,12 @@
 -- `heat_release` meets its contract: the step's operations, one by one.
 -- Assumes nothing.
-use mathlib.Core.Path.{_≡_, ap₂, _∙_}
+use mathlib.Core.Path.{ap₂, _∙_}
 use Prim.Native.Nat.{ℕ, _*_, _^_, _≤_, _<_}
-use Rattle.chain.specs.declared.enquiry.Enquiry.{Enquiry}
 use native.Mathlib.Nat.{mul-le-mul}
 use native.Mathlib.Omega.{arith}
 use Rattle.pairs.specs.Rounded as R
 use Rattle.pairs.specs.Answers as A
 use Rattle.chain.specs.Chain as chain
-use Rattle.pairs.specs.Rounded.{U, ends}
-use Rattle.pairs.specs.Figures.{Figures, given}
 use Rattle.chain.proofs.Constants.{thousandths}
 use borrow.Author.Needs.{needs}
 use Rattle.chain.proofs.pool.heat_release.Statement.{statement}
@@ -21,12 +18,6 @@ most m c a h k l = let p : m * c ≤ 150 * 500 = mul-le-mul h k in (p, mul-le-mu
 
 fits : (m c a : ℕ) → m ≤ 150 → c ≤ 500 → a ≤ 190_000 → m * c * a * 1_000_000_000 < 2 ^ 64
 fits m c a h k l = omega (arith, most m c a h k l .1)
-
-released :
-    (E : Enquiry) (n o x d r : Figures) → n ≡ A.constant (E .rate * E .heat * E .area) 1000 → o ≡ given (ends U U) → x ≡ chain.unabsorbed A.answers E
-    → d ≡ A.difference o x → r ≡ A.product n d → r ≡ chain.heat-release A.answers E
-unfolding chain.heat-release A.constant A.fitting R.constant
-released E n o x d r e f g h k = k ∙ ap₂ A.product e (h ∙ ap₂ A.difference f g)
 
 cast-m : tie.Need-cast-m
 cast-m c = search needs
@@ -62,13 +53,14 @@ product-of-requires : tie.Need-product-of-requires
 product-of-requires c κs = search needs
 
 returns : tie.Need-returns
-unfolding chain.heat-release
-returns c = let s = c .before .before .before .before .before .before .before .before in
-    let e = s .args .e in (
-      released e _ _ _ _ _ (c .before .before .before .before .exact .ensures .0 ∙ thousandths (e .rate * e .heat * e .area) (fits (e .rate) (e .heat) (e .area) (s .pre .0 .0) (s .pre .0 .1) (s .pre .0 .2)))
-          (c .before .before .before .exact2 .ensures .0) (c .before .before .unabsorbed .ensures .0) (c .before .difference-of .ensures .0) (c .product-of .ensures .0),
-      c .product-of .ensures .1,
-    )
+unfolding chain.heat-release A.constant A.fitting R.constant
+returns c =
+    let s = c .before .before .before .before in
+    let start = s .before .before .before .before in
+    let e = start .args .e in
+    let supply = s .exact .ensures .0 ∙ thousandths (e .rate * e .heat * e .area) (fits (e .rate) (e .heat) (e .area) (start .pre .0 .0) (start .pre .0 .1) (start .pre .0 .2)) in
+    let absorbed = c .before .difference-of .ensures .0 ∙ ap₂ A.difference (c .before .before .before .exact2 .ensures .0) (c .before .before .unabsorbed .ensures .0) in
+    (c .product-of .ensures .0 ∙ ap₂ A.product supply absorbed, c .product-of .ensures .1)
 
 pub heat-release-spec : {M : Type 1} → statement M
 heat-release-spec =
