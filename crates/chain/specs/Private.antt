@@ -8,7 +8,7 @@ use Rattle.pairs.specs.declared.answer.Answer.{Answer}
 use Rattle.pairs.specs.Rounded.{U, down, up}
 use Rattle.pairs.specs.Figures.{figures}
 use Rattle.pairs.specs.Answers.{answers}
-use Rattle.pairs.specs.Private.{in-order}
+use Rattle.pairs.specs.Private.{Gives}
 use Rattle.chain.specs.declared.enquiry.Enquiry.{Enquiry}
 use Rattle.chain.specs.declared.enquiry.Printed.{Printed}
 use Rattle.chain.specs.declared.factor.Shared.{Shared}
@@ -31,6 +31,6 @@ pub record Prints (q : Pair) (method : ℕ) (p : Printed) : Type 0 where
 
 -- What both faces share of l and e: r, u·v and A, each in order.
 pub record SharedOf (l e : Answer) (s : Shared) : Type 0 where
-  pub r : (figures (s .r) ≡ chain.r answers (figures e)) × in-order (s .r)
-  pub product : (figures (s .product) ≡ answers .product (chain.u answers (figures l) (figures e)) (chain.v answers (figures l) (figures e))) × in-order (s .product)
-  pub tilt : (figures (s .tilt) ≡ chain.tilt answers (figures l) (figures e)) × in-order (s .tilt)
+  pub r : Gives (s .r) (chain.r answers (figures e))
+  pub product : Gives (s .product) (answers .product (chain.u answers (figures l) (figures e)) (chain.v answers (figures l) (figures e)))
+  pub tilt : Gives (s .tilt) (chain.tilt answers (figures l) (figures e))

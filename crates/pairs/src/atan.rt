@@ -13,13 +13,13 @@ ghost use mathlib.Core.Path.{_≡_};
 ghost use Prim.Native.Nat.{_≤_};
 ghost use Rattle.pairs.specs.Figures.{figures, given};
 ghost use Rattle.pairs.specs.Answers.{answers, atan-of};
-ghost use Rattle.pairs.specs.Private.{in-order};
+ghost use Rattle.pairs.specs.Private.{in-order, Gives};
 ghost use Rattle.pairs.specs.Series as series;
 
 // 1 + a.
 fn one_more(a: Answer) -> Answer
     requires { ⌜ in-order a ⌝ }
-    ensures { λ r. ⌜ (figures r ≡ answers .sum (series.one answers) (figures a)) × in-order r ⌝ }
+    ensures { λ r. ⌜ Gives r (answers .sum (series.one answers) (figures a)) ⌝ }
 {
     let Answer::Is(p) = a else {
         return a;
@@ -35,7 +35,7 @@ fn one_more(a: Answer) -> Answer
 
 fn root_of(a: Answer) -> Answer
     requires { ⌜ in-order a ⌝ }
-    ensures { λ r. ⌜ (figures r ≡ answers .root (figures a)) × in-order r ⌝ }
+    ensures { λ r. ⌜ Gives r (answers .root (figures a)) ⌝ }
 {
     let Answer::Is(p) = a else {
         return a;
@@ -45,7 +45,7 @@ fn root_of(a: Answer) -> Answer
 
 fn over_answer(t: Pair, a: Answer) -> Answer
     requires { ⌜ (t .low ≤ t .high) × in-order a ⌝ }
-    ensures { λ r. ⌜ (figures r ≡ answers .quotient (given t) (figures a)) × in-order r ⌝ }
+    ensures { λ r. ⌜ Gives r (answers .quotient (given t) (figures a)) ⌝ }
 {
     let Answer::Is(p) = a else {
         return a;
@@ -56,7 +56,7 @@ fn over_answer(t: Pair, a: Answer) -> Answer
 // t/(1+root(1+t·t)).
 fn half_angle(a: Answer) -> Answer
     requires { ⌜ in-order a ⌝ }
-    ensures { λ r. ⌜ (figures r ≡ series.half-angle answers (figures a)) × in-order r ⌝ }
+    ensures { λ r. ⌜ Gives r (series.half-angle answers (figures a)) ⌝ }
 {
     let Answer::Is(t) = a else {
         return a;
