@@ -90,9 +90,10 @@ widths = (refl, refl, refl, refl, refl, refl)
 flux-held : (E : Enquiry) → Tested E → Held (radiant-flux answers E) (flux-bound (E .method) (E .face))
 unfolding radiant-flux emissive-power emissive-bound flux-bound
 flux-held E t =
-    let s = area-of E (t .fuel) (t .area) in
-    let f = s .flame .high (high-enough E (within-limits-not-refused E (t .fuel) (t .area)) (t .flame)) in
-    let d = between 1_000 200_000 (E .distance) (t .distance) in
+    let w = t .limited in
+    let s = area-of E (w .fuel) (w .area) in
+    let f = s .flame .high (high-enough E (within-limits-not-refused E (w .fuel) (w .area)) (t .flame)) in
+    let d = between 1_000 200_000 (E .distance) (w .distance) in
     within .product (known (choice-kept Held (eqb (E .method) 1) (s .power) (f .power)))
     (known (factor-held (E .face) (f .height) (s .distance (d .low) (d .high)))) .where-safe (flux-small (E .method) (E .face) .safe)
 

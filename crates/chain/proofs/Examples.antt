@@ -53,7 +53,10 @@ flame-fits method face =
 
 pub example-tested : (method face : ℕ) → outside 1 2 method ≡ false → outside 1 3 face ≡ false → Tested (example method face)
 example-tested method face m f =
-    record { fuel = fuel-fits method face; area = refl; method = m; distance = refl; face = f; flame = flame-fits method face }
+    record {
+      limited = record { fuel = fuel-fits method face; area = refl; method = m; distance = refl; face = f };
+      flame = flame-fits method face;
+    }
 
 -- For each method and each face an enquiry is accepted.
 pub each-accepted : (method face : ℕ) → outside 1 2 method ≡ false → outside 1 3 face ≡ false → (flux-of (example method face)) .state ≡ 0

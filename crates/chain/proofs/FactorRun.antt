@@ -16,9 +16,10 @@ pub record Row (A : Arithmetic) : Type 0 where
   pub e·e : A .Carrier
   pub e·g : A .Carrier
   pub r : A .Carrier
-  pub near-angle : A .Carrier
-  pub far-angle : A .Carrier
-  pub mean : A .Carrier
+  pub atan-r : A .Carrier
+  -- atan(root(g/e))
+  pub atan-root : A .Carrier
+  pub root-e·g : A .Carrier
   pub pi : A .Carrier
 
 pub record Faces (A : Arithmetic) : Type 0 where
@@ -38,9 +39,9 @@ module _ (A : Arithmetic) where
         e·e = A .product e e;
         e·g = A .product e g;
         r = r;
-        near-angle = atan-run A r;
-        far-angle = atan-run A (A .root (A .quotient g e));
-        mean = A .root (A .product e g);
+        atan-r = atan-run A r;
+        atan-root = atan-run A (A .root (A .quotient g e));
+        root-e·g = A .root (A .product e g);
         pi = pi A;
       }
 
@@ -53,11 +54,11 @@ module _ (A : Arithmetic) where
       let u·v = A .product u v in
       let tilted = atan-run A (A .quotient (A .product (E .r) u) v) in
       let l-over-x = A .quotient l (E .x) in
-      let height = A .quotient (atan-run A (A .quotient l (E .mean))) (E .x) in
+      let height = A .quotient (atan-run A (A .quotient l (E .root-e·g))) (E .x) in
       let ratio = A .quotient (A .sum (A .sum l·l (E .x·x)) (one A)) u·v in
       record {
-        upright = A .quotient (A .difference (A .sum height (A .product (A .product l-over-x ratio) tilted)) (A .product l-over-x (E .near-angle))) (E .pi);
-        level = A .quotient (A .difference (E .far-angle) (A .product (A .quotient (A .sum l·l (E .e·g)) u·v) tilted)) (E .pi);
+        upright = A .quotient (A .difference (A .sum height (A .product (A .product l-over-x ratio) tilted)) (A .product l-over-x (E .atan-r))) (E .pi);
+        level = A .quotient (A .difference (E .atan-root) (A .product (A .quotient (A .sum l·l (E .e·g)) u·v) tilted)) (E .pi);
       }
 
 pub record RowKept (A B : Arithmetic) (R : A .Carrier → B .Carrier → Type 0) (e : A .Carrier) (E : Row B) : Type 0 where
@@ -67,9 +68,9 @@ pub record RowKept (A B : Arithmetic) (R : A .Carrier → B .Carrier → Type 0)
   pub e·e : R (A .product e e) (E .e·e)
   pub e·g : R (A .product e (chain.g A e)) (E .e·g)
   pub r : R (chain.r A e) (E .r)
-  pub near-angle : R (atan A (chain.r A e)) (E .near-angle)
-  pub far-angle : R (atan A (A .root (A .quotient (chain.g A e) e))) (E .far-angle)
-  pub mean : R (A .root (A .product e (chain.g A e))) (E .mean)
+  pub atan-r : R (atan A (chain.r A e)) (E .atan-r)
+  pub atan-root : R (atan A (A .root (A .quotient (chain.g A e) e))) (E .atan-root)
+  pub root-e·g : R (A .root (A .product e (chain.g A e))) (E .root-e·g)
   pub pi : R (pi A) (E .pi)
 
 module _ {A B : Arithmetic} {R : A .Carrier → B .Carrier → Type 0} (K : Kept A B R) where
@@ -86,9 +87,9 @@ module _ {A B : Arithmetic} {R : A .Carrier → B .Carrier → Type 0} (K : Kept
         e·e = K .product h h;
         e·g = K .product h g;
         r = r;
-        near-angle = atan-run-kept K r;
-        far-angle = atan-run-kept K (K .root (K .quotient g h));
-        mean = K .root (K .product h g);
+        atan-r = atan-run-kept K r;
+        atan-root = atan-run-kept K (K .root (K .quotient g h));
+        root-e·g = K .root (K .product h g);
         pi = pi-kept K;
       }
 
@@ -107,12 +108,12 @@ module _ {A B : Arithmetic} {R : A .Carrier → B .Carrier → Type 0} (K : Kept
         let tilted = atan-run-kept K (K .quotient (K .product (k .r) u-run-kept) v-run-kept) in
         let ratio = K .quotient (K .sum (K .sum (K .product h h) (k .x·x)) (one-kept K)) (K .product u-run-kept v-run-kept) in
         let l-over-x = K .quotient h (k .x) in
-        let height = K .quotient (atan-run-kept K (K .quotient h (k .mean))) (k .x) in
-        K .quotient (K .difference (K .sum height (K .product (K .product l-over-x ratio) tilted)) (K .product l-over-x (k .near-angle))) (k .pi)
+        let height = K .quotient (atan-run-kept K (K .quotient h (k .root-e·g))) (k .x) in
+        K .quotient (K .difference (K .sum height (K .product (K .product l-over-x ratio) tilted)) (K .product l-over-x (k .atan-r))) (k .pi)
 
     pub level-kept : R (horizontal A l e) ((faces-run B E b) .level)
     unfolding horizontal horizontal-ratio tilt faces-run
     level-kept =
         let tilted = atan-run-kept K (K .quotient (K .product (k .r) u-run-kept) v-run-kept) in
         let ratio = K .quotient (K .sum (K .product h h) (k .e·g)) (K .product u-run-kept v-run-kept) in
-        K .quotient (K .difference (k .far-angle) (K .product ratio tilted)) (k .pi)
+        K .quotient (K .difference (k .atan-root) (K .product ratio tilted)) (k .pi)

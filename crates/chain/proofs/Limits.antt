@@ -5,17 +5,15 @@ use mathlib.Core.Bool.{Bool, true, false, _&&_, not}
 use Prim.Native.Nat.{ℕ, _≤_}
 use native.Mathlib.Omega.{arith}
 use lib.Dec.{T, leb, leb→le, lit≤}
+use Rattle.pairs.specs.Figures.{refuse}
 use Rattle.chain.specs.declared.enquiry.Enquiry.{Enquiry}
-use Rattle.chain.specs.Flux.{Shown, refuse, outside, fuel-within, flame-too-low, stage-too-large, low-of, high-of, note-of, flux-of}
+use Rattle.chain.specs.Flux.{Shown, refused, outside, fuel-within, flame-too-low, stage-too-large, low-of, high-of, note-of, flux-of}
+use Rattle.chain.specs.Private.{Limited}
 use Rattle.chain.proofs.Flame.{Fuel}
 
 -- No number from 11 to 16 applies.
 pub record Tested (E : Enquiry) : Type 0 where
-  pub fuel : not (fuel-within E) ≡ false
-  pub area : outside 100 190_000 (E .area) ≡ false
-  pub method : outside 1 2 (E .method) ≡ false
-  pub distance : outside 1_000 200_000 (E .distance) ≡ false
-  pub face : outside 1 3 (E .face) ≡ false
+  pub limited : Limited E
   pub flame : flame-too-low E ≡ false
 
 pub record Between (least n most : ℕ) : Type 0 where
@@ -51,7 +49,7 @@ fuel E e =
     }
 
 -- A test before what follows: another state than its own number is that of what follows.
-follows : (b : Bool) (n k : ℕ) (s : Shown) → (n ≡ k → ⊥) → (refuse b n s) .state ≡ k → (b ≡ false) × (s .state ≡ k)
+follows : (b : Bool) (n k : ℕ) (s : Shown) → (n ≡ k → ⊥) → (refuse b (refused n) s) .state ≡ k → (b ≡ false) × (s .state ≡ k)
 follows true n k s other e = absurd (other e)
 follows false n k s other e = (refl, e)
 
@@ -59,19 +57,22 @@ follows false n k s other e = (refl, e)
 pub past-tests : (E : Enquiry) (k : ℕ) → ((n : ℕ) → 11 ≤ n → n ≤ 16 → n ≡ k → ⊥) → (flux-of E) .state ≡ k → Tested E
 unfolding flux-of
 past-tests E k other e =
-    let s17 = refuse (stage-too-large E) 17 (record { state = 0; low = low-of E; high = high-of E; note = note-of E }) in
-    let s16 = refuse (flame-too-low E) 16 s17 in
-    let s15 = refuse (outside 1 3 (E .face)) 15 s16 in
-    let s14 = refuse (outside 1_000 200_000 (E .distance)) 14 s15 in
-    let s13 = refuse (outside 1 2 (E .method)) 13 s14 in
-    let s12 = refuse (outside 100 190_000 (E .area)) 12 s13 in
+    let s17 = refuse (stage-too-large E) (refused 17) (record { state = 0; low = low-of E; high = high-of E; note = note-of E }) in
+    let s16 = refuse (flame-too-low E) (refused 16) s17 in
+    let s15 = refuse (outside 1 3 (E .face)) (refused 15) s16 in
+    let s14 = refuse (outside 1_000 200_000 (E .distance)) (refused 14) s15 in
+    let s13 = refuse (outside 1 2 (E .method)) (refused 13) s14 in
+    let s12 = refuse (outside 100 190_000 (E .area)) (refused 12) s13 in
     let t11 = follows (not (fuel-within E)) 11 k s12 (other 11 (lit≤ tt) (lit≤ tt)) e in
     let t12 = follows (outside 100 190_000 (E .area)) 12 k s13 (other 12 (lit≤ tt) (lit≤ tt)) (t11 .1) in
     let t13 = follows (outside 1 2 (E .method)) 13 k s14 (other 13 (lit≤ tt) (lit≤ tt)) (t12 .1) in
     let t14 = follows (outside 1_000 200_000 (E .distance)) 14 k s15 (other 14 (lit≤ tt) (lit≤ tt)) (t13 .1) in
     let t15 = follows (outside 1 3 (E .face)) 15 k s16 (other 15 (lit≤ tt) (lit≤ tt)) (t14 .1) in
     let t16 = follows (flame-too-low E) 16 k s17 (other 16 (lit≤ tt) (lit≤ tt)) (t15 .1) in
-    record { fuel = t11 .0; area = t12 .0; method = t13 .0; distance = t14 .0; face = t15 .0; flame = t16 .0 }
+    record {
+      limited = record { fuel = t11 .0; area = t12 .0; method = t13 .0; distance = t14 .0; face = t15 .0 };
+      flame = t16 .0;
+    }
 
 pub accepted-tested : (E : Enquiry) → (flux-of E) .state ≡ 0 → Tested E
 accepted-tested E = past-tests E 0 (λ n l u e. omega arith)
@@ -79,4 +80,4 @@ accepted-tested E = past-tests E 0 (λ n l u e. omega arith)
 -- Where no number from 11 to 16 applies, and no stage is too large, low, high and note are shown.
 pub tested-shown : (E : Enquiry) → Tested E → stage-too-large E ≡ false → flux-of E ≡ record { state = 0; low = low-of E; high = high-of E; note = note-of E }
 unfolding flux-of
-tested-shown E t large = rw (t .fuel, t .area, t .method, t .distance, t .face, t .flame, large)
+tested-shown E t large = let w = t .limited in rw (w .fuel, w .area, w .method, w .distance, w .face, t .flame, large)

@@ -10,7 +10,7 @@ use lib.Ieee.Fits.{and-l, and-r}
 use Rattle.pairs.specs.declared.answer.Pair.{Pair}
 use Rattle.pairs.specs.Rounded as R
 use Rattle.pairs.specs.Rounded.{U}
-use Rattle.pairs.specs.Figures.{Figures, given, refuse, after}
+use Rattle.pairs.specs.Figures.{Figures, given, refused, refuse, after}
 use Rattle.pairs.specs.Answers as A
 use Rattle.pairs.specs.Answers.{answers, fitting}
 use Rattle.pairs.proofs.Agreement.{after-given, refuse-given, fitting-given}
@@ -70,7 +70,7 @@ quotient-within {f} {g} {b} {c} h k =
     let divides : Bool = ltb 0 (c .least) in
     let d = B.quotient b c in
     let tests : T (d .safe) → T (divides && b .safe && c .safe) = λ s. and-r (ltb (d .most) (2 ^ 64)) (divides && b .safe && c .safe) s in
-    two-held (refuse (eqb (g .pair .low) 0) 62 (fitting (R.quotient (f .pair) (g .pair)))) d h k
+    two-held (refuse (eqb (g .pair .low) 0) (refused 62) (fitting (R.quotient (f .pair) (g .pair)))) d h k
     (λ s. and-r divides (b .safe) (and-l (divides && b .safe) (c .safe) (tests s))) (λ s. and-r (divides && b .safe) (c .safe) (tests s))
     (λ s i j.
     let above : zero < c .least = ltb→lt 0 (c .least) (and-l divides (b .safe) (and-l (divides && b .safe) (c .safe) (tests s))) in
@@ -82,20 +82,20 @@ unfolding A.over B.over bound
 over-within {f} {b} h n =
     let d = B.over b n in
     let tests : T (d .safe) → T (ltb 0 n && b .safe) = λ s. and-r (ltb (d .most) (2 ^ 64)) (ltb 0 n && b .safe) s in
-    one-held (refuse (eqb n 0) 62 (fitting (R.over (f .pair) n))) d h (λ s. and-r (ltb 0 n) (b .safe) (tests s))
+    one-held (refuse (eqb n 0) (refused 62) (fitting (R.over (f .pair) n))) d h (λ s. and-r (ltb 0 n) (b .safe) (tests s))
     (λ s i.
     let above : zero < n = ltb→lt 0 n (and-l (ltb 0 n) (b .safe) (tests s)) in
     rw (refuse-given (eqb n 0) 62 (fitting (R.over (f .pair) n)) (not-0 n above))
     (held-fitting (ltb 0 n && b .safe) (d .least) (d .most) (d .width) (I.over-inside i n above) s))
 
 -- A test of 63: made on the bound's high end, it fails on the answer's.
-spanning-within : {f : Figures} {b : Bound} (refused-by tested : Bool) → Within f b → (T tested → f .pair .high ≤ b .most → T refused-by → ⊥) → Within (after f (refuse refused-by 63 f)) (B.spanning tested b)
+spanning-within : {f : Figures} {b : Bound} (refused-by tested : Bool) → Within f b → (T tested → f .pair .high ≤ b .most → T refused-by → ⊥) → Within (after f (refuse refused-by (refused 63) f)) (B.spanning tested b)
 unfolding B.spanning
 spanning-within {f} {b} refused-by tested h passes =
     record {
       where-safe = λ s.
           let F = h .where-safe (and-r tested (b .safe) s) in
-          rw (after-given f (refuse refused-by 63 f) (F .given), refuse-given refused-by 63 f (passes (and-l tested (b .safe) s) (F .inside .high)))
+          rw (after-given f (refuse refused-by (refused 63) f) (F .given), refuse-given refused-by 63 f (passes (and-l tested (b .safe) s) (F .inside .high)))
           (record { given = F .given; inside = record { low = F .inside .low; ordered = F .inside .ordered; high = F .inside .high; near = F .inside .near } });
     }
 

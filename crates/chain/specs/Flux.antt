@@ -1,11 +1,11 @@
 -- Document 01, "One flux" under "Turned back": what is shown for an enquiry, on all numbers.
-use Prim.Native.Nat.{ℕ, _+_, _*_, _^_}
+use Prim.Native.Nat.{ℕ, _*_}
 use mathlib.Core.Bool.{Bool, true, false, _&&_, not}
 use lib.Dec.{leb, ltb, eqb}
 use Rattle.pairs.specs.Rounded.{U, down, up, rounded}
+use Rattle.pairs.specs.Figures.{refuse}
 use Rattle.pairs.specs.Answers.{answers}
 use Rattle.chain.specs.declared.enquiry.Enquiry.{Enquiry}
-use Rattle.chain.specs.declared.enquiry.Printed.{Printed}
 use Rattle.chain.specs.declared.enquiry.Turned.{Turned}
 use Rattle.chain.specs.declared.enquiry.Turned.the-variants as turned
 use Rattle.chain.specs.declared.enquiry.Flux.{Flux}
@@ -37,11 +37,6 @@ abbrev pub shown : Flux → Shown
 shown (Is p) = record { state = 0; low = p .low; high = p .high; note = p .note }
 shown (Refused why) = refused (number-of why)
 
--- The number where the test holds, else what follows: "the first number that applies, in the order written, is given."
-abbrev pub refuse : Bool → ℕ → Shown → Shown
-refuse true n s = refused n
-refuse false n s = s
-
 -- "limits included"
 abbrev pub outside : ℕ → ℕ → ℕ → Bool
 outside least most n = not (leb least n && leb n most)
@@ -72,11 +67,11 @@ note-of E = elim (eqb (E .method) 1 && leb (low-of E) 5000) [ true ↦ 1 | false
 
 unfoldable pub flux-of : Enquiry → Shown
 flux-of E =
-    refuse (not (fuel-within E)) 11
-    (refuse (outside 100 190_000 (E .area)) 12
-    (refuse (outside 1 2 (E .method)) 13
-    (refuse (outside 1_000 200_000 (E .distance)) 14
-    (refuse (outside 1 3 (E .face)) 15
-    (refuse (flame-too-low E) 16
-    (refuse (stage-too-large E) 17
+    refuse (not (fuel-within E)) (refused 11)
+    (refuse (outside 100 190_000 (E .area)) (refused 12)
+    (refuse (outside 1 2 (E .method)) (refused 13)
+    (refuse (outside 1_000 200_000 (E .distance)) (refused 14)
+    (refuse (outside 1 3 (E .face)) (refused 15)
+    (refuse (flame-too-low E) (refused 16)
+    (refuse (stage-too-large E) (refused 17)
     (record { state = 0; low = low-of E; high = high-of E; note = note-of E })))))))

@@ -7,7 +7,6 @@ use native.Mathlib.Numerals.{add-one}
 use native.Mathlib.Omega.{arith}
 use lib.Dec.{lit<}
 use Rattle.pairs.specs.Figures.{Figures}
-use Rattle.pairs.specs.Rounded as rounded
 use Rattle.pairs.specs.Answers as answers
 use Rattle.pairs.specs.Answers.{answers}
 use Rattle.pairs.specs.Series.{plus-terms, minus-terms, alternating}

@@ -1,6 +1,6 @@
 -- Demand 3 of the code: what `flux` answers for an enquiry, when it answers figures, has the properties of demand 3.
 -- From the contract of `flux`, which says that what it shows is the definition. Assumes nothing.
-use mathlib.Core.Path.{_≡_, refl, sym, ap, _∙_}
+use mathlib.Core.Path.{_≡_, sym, ap}
 use mathlib.Core.Bool.{true}
 use Prim.Native.Nat.{ℕ, _+_, _≤_}
 use Rattle.chain.specs.declared.enquiry.Enquiry.{Enquiry}

@@ -26,11 +26,11 @@ watts-up b = record { cross = omega arith }
 
 limits : {E : Enquiry} → Tested E → Limits E
 limits {E} t =
-    let area = between 100 190_000 (E .area) (t .area) in
+    let area = between 100 190_000 (E .area) (t .limited .area) in
     record {
       least-area = area .low;
       most-area = area .high;
-      least-distance = between 1_000 200_000 (E .distance) (t .distance) .low;
+      least-distance = between 1_000 200_000 (E .distance) (t .limited .distance) .low;
     }
 
 pub demand-3 : Demand-3

@@ -2,12 +2,12 @@
 -- By the laws of pairs that say what stands behind a result with number 0. Assumes nothing.
 use mathlib.Core.Path.{_≡_}
 use mathlib.Core.Bool.{Bool}
-use Prim.Native.Nat.{ℕ, zero, suc, _≤_, _<_}
-use native.Mathlib.Nat.{lt-of-not-le, zero-lt-suc}
+use Prim.Native.Nat.{ℕ, suc, _≤_, _<_}
+use native.Mathlib.Nat.{lt-of-not-le}
 use native.Mathlib.Decide.{decLe}
-use lib.Dec.{T, eqb, leb, ltb, le→leb, lt→ltb}
+use lib.Dec.{T, leb, ltb, le→leb, lt→ltb}
 use Rattle.pairs.specs.declared.answer.Pair.{Pair}
-use Rattle.pairs.specs.Figures.{Figures, refuse, after}
+use Rattle.pairs.specs.Figures.{Figures, refused, refuse, after}
 use Rattle.pairs.specs.Answers as answers
 use Rattle.pairs.specs.Answers.{fitting}
 use Rattle.pairs.proofs.Agreement.{after-passed, refuse-passed, fitting-passed}
@@ -18,7 +18,7 @@ Passing P f = f .number ≡ 0 → P (f .pair)
 pub after-passing : (P : Pair → Type 0) (a f : Figures) → (a .number ≡ 0 → Passing P f) → Passing P (after a f)
 after-passing P a f h z = let w = after-passed a f z in rw (w .same) (h (w .first) (rw (w .same) at z))
 
-pub refuse-passing : (P : Pair → Type 0) (b : Bool) (n : ℕ) (f : Figures) → ((T b → ⊥) → Passing P f) → Passing P (refuse b (suc n) f)
+pub refuse-passing : (P : Pair → Type 0) (b : Bool) (n : ℕ) (f : Figures) → ((T b → ⊥) → Passing P f) → Passing P (refuse b (refused (suc n)) f)
 refuse-passing P b n f h z = let w = refuse-passed b n f z in rw (w .1) (h (w .0) (rw (w .1) at z))
 
 pub fitting-passing : (P : Pair → Type 0) (p : Pair) → P p → Passing P (fitting p)

@@ -6,7 +6,7 @@ use Prim.Native.Nat.{_*_}
 use native.Mathlib.Nat.{le-of-lt}
 use lib.Dec.{T, lit<, lit≤, leb, ltb}
 use Rattle.pairs.specs.declared.answer.Pair.{Pair}
-use Rattle.pairs.specs.Figures.{Figures, refuse, after}
+use Rattle.pairs.specs.Figures.{Figures, refused, refuse, after}
 use Rattle.pairs.specs.Rounded.{U, up}
 use Rattle.pairs.specs.Answers as answers
 use Rattle.exact.specs.Fraction.{Fraction, _⊑_, whole}
@@ -32,7 +32,7 @@ unfolding trillionths whole
 256-U-is-256 = record { cross = lit≤ tt }
 
 module _ {a : Figures} {x : Bracket} (h : Meets a x) where
-  tested-meets : (b : Bool) → Meets (after a (refuse b 63 a)) x
+  tested-meets : (b : Bool) → Meets (after a (refuse b (refused 63) a)) x
   tested-meets b =
       record {
         sound = h .sound;
@@ -43,7 +43,7 @@ module _ {a : Figures} {x : Bracket} (h : Meets a x) where
       Q r = Overlap r x
 
   tested-bound :
-      (b : Bool) {z : Fraction} → ((T b → ⊥) → trillionths (a .pair .high) ⊑ z) → (after a (refuse b 63 a)) .number ≡ 0 → x .low ⊑ z
+      (b : Bool) {z : Fraction} → ((T b → ⊥) → trillionths (a .pair .high) ⊑ z) → (after a (refuse b (refused 63) a)) .number ≡ 0 → x .low ⊑ z
   tested-bound b {z} bound =
       after-passing (λ _. x .low ⊑ z) a _
       (λ u. refuse-passing (λ _. x .low ⊑ z) b 62 a (λ t v. h .overlap v .high ⟫ bound t))

@@ -3,13 +3,13 @@
 use mathlib.Core.Path.{_≡_, refl, sym, ap, ap₂, subst, _∙_}
 use mathlib.Core.Bool.{Bool, true, false}
 use Prim.Native.Nat.{ℕ, zero, suc, _*_, _^_, _<_}
-use native.Mathlib.Nat.{lt-of-not-le, not-le-of-lt, zero-lt-suc}
+use native.Mathlib.Nat.{not-le-of-lt, zero-lt-suc}
 use native.Mathlib.Omega.{arith}
-use lib.Dec.{T, leb, ltb, eqb, le→leb, leb→le, not-T, nltb→le}
+use lib.Dec.{T, leb, ltb, eqb, leb→le, not-T, nltb→le}
 use Rattle.pairs.specs.declared.answer.Pair.{Pair}
 use Rattle.pairs.specs.Rounded as R
 use Rattle.pairs.specs.Rounded.{U, rounded}
-use Rattle.pairs.specs.Figures.{Figures, given, refuse, after}
+use Rattle.pairs.specs.Figures.{Figures, given, refused, refuse, after}
 use Rattle.pairs.specs.Answers as A
 use Rattle.pairs.specs.Answers.{answers, admitted, fitting}
 use Rattle.pairs.proofs.Kept.{Kept}
@@ -29,17 +29,13 @@ after-passed a f h = by-number (a .number) (a .pair) h
     by-number (suc n) p e = absurd (omega (arith, e))
 
 -- A refusal's test failed, and what follows stands.
-pub refuse-passed : (b : Bool) (n : ℕ) (f : Figures) → (refuse b (suc n) f) .number ≡ 0 → (T b → ⊥) × (refuse b (suc n) f ≡ f)
+pub refuse-passed : (b : Bool) (n : ℕ) (f : Figures) → (refuse b (refused (suc n)) f) .number ≡ 0 → (T b → ⊥) × (refuse b (refused (suc n)) f ≡ f)
 refuse-passed true n f h = absurd (omega (arith, h))
 refuse-passed false n f h = ((λ t. t), refl)
 
 pub fitting-passed : (p : Pair) → (fitting p) .number ≡ 0 → fitting p ≡ given p
 unfolding fitting
 fitting-passed p h = refuse-passed (leb (2 ^ 64) (p .high)) 63 (given p) h .1
-
-pub fitting-below : (p : Pair) → (fitting p) .number ≡ 0 → p .high < 2 ^ 64
-unfolding fitting
-fitting-below p h = lt-of-not-le (λ l. refuse-passed (leb (2 ^ 64) (p .high)) 63 (given p) h .0 (le→leb (2 ^ 64) (p .high) l))
 
 -- ---- the other way: what is not refused
 pub after-given : (a f : Figures) → a .number ≡ 0 → after a f ≡ f
@@ -49,7 +45,7 @@ after-given a f e = by-number (a .number) (a .pair) e
     by-number zero p e = refl
     by-number (suc n) p e = absurd (omega (arith, e))
 
-pub refuse-given : (b : Bool) (n : ℕ) (f : Figures) → (T b → ⊥) → refuse b n f ≡ f
+pub refuse-given : (b : Bool) (n : ℕ) (f : Figures) → (T b → ⊥) → refuse b (refused n) f ≡ f
 refuse-given true n f h = absurd (h tt)
 refuse-given false n f h = refl
 
@@ -74,7 +70,7 @@ pub admitted-agrees : (p : Pair) → Agrees (admitted p) p
 unfolding admitted
 admitted-agrees p =
     let disordered : Bool = ltb (p .high) (p .low) in
-    let passes : (refuse disordered 61 (given p)) .number ≡ 0 → refuse disordered 61 (given p) ≡ given p = λ z. refuse-passed disordered 60 (given p) z .1 in
+    let passes : (refuse disordered (refused 61) (given p)) .number ≡ 0 → refuse disordered (refused 61) (given p) ≡ given p = λ z. refuse-passed disordered 60 (given p) z .1 in
     record {
       same = λ z. ap (λ (f : Figures). f .pair) (passes z);
       ordered = λ z. rw (passes z) (record { ends = nltb→le (p .high) (p .low) (not-T disordered (refuse-passed disordered 60 (given p) z .0)) });
@@ -109,13 +105,13 @@ fitting-same : (p : Pair) → (fitting p) .number ≡ 0 → (fitting p) .pair �
 fitting-same p z = ap (λ (f : Figures). f .pair) (fitting-passed p z)
 
 -- A test before a tail that fits.
-tested-same : (b : Bool) (n : ℕ) (p : Pair) → (refuse b (suc n) (fitting p)) .number ≡ 0 → (refuse b (suc n) (fitting p)) .pair ≡ p
+tested-same : (b : Bool) (n : ℕ) (p : Pair) → (refuse b (refused (suc n)) (fitting p)) .number ≡ 0 → (refuse b (refused (suc n)) (fitting p)) .pair ≡ p
 tested-same b n p z = let w = refuse-passed b n (fitting p) z .1 in rw w (fitting-same p (rw w at z))
 
 -- A test that lets a itself through.
-let-through : {a : Figures} {p : Pair} (b : Bool) → Agrees a p → Agrees (after a (refuse b 63 a)) p
+let-through : {a : Figures} {p : Pair} (b : Bool) → Agrees a p → Agrees (after a (refuse b (refused 63) a)) p
 let-through {a} b h =
-    one-part (refuse b 63 a) (λ p. p) h (λ z. ap (λ (f : Figures). f .pair) (refuse-passed b 62 a z .1)) (λ z o. o)
+    one-part (refuse b (refused 63) a) (λ p. p) h (λ z. ap (λ (f : Figures). f .pair) (refuse-passed b 62 a z .1)) (λ z o. o)
 
 pub above-0 : (n : ℕ) → (T (eqb n 0) → ⊥) → zero < n
 above-0 zero h = absurd (h tt)
@@ -126,7 +122,7 @@ unfolding A.quotient
 quotient-agrees {a} {b} h k =
     let no-divisor : Bool = eqb (b .pair .low) 0 in
     let t = fitting (R.quotient (a .pair) (b .pair)) in
-    two-parts (refuse no-divisor 62 t) R.quotient h k (tested-same no-divisor 61 (R.quotient (a .pair) (b .pair)))
+    two-parts (refuse no-divisor (refused 62) t) R.quotient h k (tested-same no-divisor 61 (R.quotient (a .pair) (b .pair)))
     (λ z. O.quotient-ordered (above-0 (b .pair .low) (refuse-passed no-divisor 61 t z .0)))
 
 over-agrees : {a : Figures} {p : Pair} → Agrees a p → (n : ℕ) → Agrees (A.over a n) (R.over p n)
@@ -134,7 +130,7 @@ unfolding A.over
 over-agrees {a} h n =
     let no-divisor : Bool = eqb n 0 in
     let t = fitting (R.over (a .pair) n) in
-    one-part (refuse no-divisor 62 t) (λ p. R.over p n) h (tested-same no-divisor 61 (R.over (a .pair) n))
+    one-part (refuse no-divisor (refused 62) t) (λ p. R.over p n) h (tested-same no-divisor 61 (R.over (a .pair) n))
     (λ z o. O.over-ordered o n (above-0 n (refuse-passed no-divisor 61 t z .0)))
 
 pub agreement : Kept answers rounded Agrees

@@ -1,7 +1,7 @@
 -- Operations on answers: one that gives a pair gives it in order, as a pair that has passed 61, and a refusal stays.
 -- By the agreement of answers with rounded pairs, and by cases of the refusal. Assumes nothing.
 use mathlib.Core.Path.{_≡_, refl, sym}
-use Prim.Native.Nat.{ℕ, suc, _≤_, zero-le}
+use Prim.Native.Nat.{ℕ, suc, zero-le}
 use Rattle.pairs.specs.declared.answer.Pair.{Pair}
 use Rattle.pairs.specs.declared.answer.Refusal.{Refusal}
 use Rattle.pairs.specs.declared.answer.Refusal.the-variants.{Disordered, ZeroDivisor, OutOfSpan, TooLarge}

@@ -2,7 +2,7 @@
 -- Every power and every term is at most 1, so n terms sum to at most n. Assumes nothing.
 use mathlib.Core.Path.{_≡_, refl, ap, ap₂, _∙_}
 use Prim.Native.Nat.{ℕ, zero, suc, _+_, _*_, _^_, _≤_, _<_, zero-le}
-use native.Mathlib.Nat.{le-trans, le-refl, mul-le-mul, mul-le-mul-left, zero-lt-suc}
+use native.Mathlib.Nat.{le-trans, le-refl, mul-le-mul, zero-lt-suc}
 use native.Mathlib.Omega.{arith}
 use lib.Dec.{lit<}
 use borrow.Author.Tests.{le-ltb, ne-eqb}
@@ -22,11 +22,6 @@ pub record Within (m : ℕ) (p : Pair) : Type 0 where
   pub high : p .high ≤ m
 
 -- ---- one operation on numbers of at most 1
-
-pub sum-within : {m n : ℕ} {p q : Pair} → Within m p → Within n q → Within (m + n) (R.sum p q)
-unfolding R.sum
-sum-within h k = record { low = omega arith; high = omega arith }
-
 pub product-within : {p q : Pair} → Within U p → Within U q → Within U (R.product p q)
 unfolding R.product
 product-within h k =

@@ -1,10 +1,10 @@
 -- Document 01's "One pair operation", the whole of 61, 62 and 64 for each operation, in its order: which number is given when, and
 -- the pair where none is. One law for operations on two pairs, one for those on one.
 -- Assumes nothing.
-use mathlib.Core.Path.{_≡_, refl, sym}
+use mathlib.Core.Path.{_≡_}
 use mathlib.Core.Bool.{Bool, true, false}
-use Prim.Native.Nat.{ℕ, zero, _^_, _≤_, _<_}
-use lib.Dec.{ltb, leb, eqb}
+use Prim.Native.Nat.{ℕ, _^_, _≤_, _<_}
+use lib.Dec.{eqb}
 use borrow.Author.Tests.{lt-ltb, le-ltb, le-leb}
 use Rattle.pairs.specs.declared.answer.Pair.{Pair}
 use Rattle.pairs.specs.Rounded as rounded
@@ -32,7 +32,7 @@ pub record OnOne (p : Pair) (z : Bool) (r : Pair) (f : Figures) : Type 0 where
   pub is-64 : p .low ≤ p .high → z ≡ false → 2 ^ 64 ≤ r .high → refused 64 ≡ f
   pub is : p .low ≤ p .high → z ≡ false → r .high < 2 ^ 64 → given r ≡ f
 
-on-one : (p : Pair) (z : Bool) (r : Pair → Pair) → OnOne p z (r p) (after (admitted p) (refuse z 62 (fitting (r ((admitted p) .pair)))))
+on-one : (p : Pair) (z : Bool) (r : Pair → Pair) → OnOne p z (r p) (after (admitted p) (refuse z (refused 62) (fitting (r ((admitted p) .pair)))))
 on-one p z r =
     record {
       is-61 = λ h. rw (disordered p h);
@@ -52,7 +52,7 @@ pub record OnTwo (p q : Pair) (z : Bool) (r : Pair) (f : Figures) : Type 0 where
 on-two :
     (p q : Pair) (z : Pair → Bool) (r : Pair → Pair → Pair) →
     OnTwo p q (z q) (r p q)
-    (after (admitted p) (after (admitted q) (refuse (z ((admitted q) .pair)) 62 (fitting (r ((admitted p) .pair) ((admitted q) .pair))))))
+    (after (admitted p) (after (admitted q) (refuse (z ((admitted q) .pair)) (refused 62) (fitting (r ((admitted p) .pair) ((admitted q) .pair))))))
 on-two p q z r =
     record {
       is-61 = λ h. rw (disordered p h);

@@ -1,8 +1,7 @@
 -- One turn of each series' loop: the ends that it holds are those of the powers and of the sums of terms so far.
--- Each turn unfolds the definitions once or twice. Assumes nothing.
+-- Assumes nothing.
 use mathlib.Core.Path.{_≡_, refl, sym, ap, ap₂, _∙_}
 use Prim.Native.Nat.{ℕ, zero, suc, _+_, _*_, _-_, _/_, _≤_, _<_, zero-le}
-use native.Mathlib.Nat.{mul-le-mul}
 use native.Mathlib.Numerals.{add-one}
 use native.Mathlib.Omega.{arith}
 use Rattle.pairs.specs.declared.answer.Pair.{Pair}
@@ -13,15 +12,6 @@ use Rattle.pairs.specs.Series.{plus-terms, minus-terms, alternating, pow
 use Rattle.pairs.proofs.product.Parts.{carried-down, carried-up}
 use Rattle.pairs.proofs.Rounding.{up-le}
 use Rattle.pairs.proofs.Terms.{Within, product-within, power-within}
-
--- A rounded product of numbers of at most 1 is at most 1, by either rounding.
-pub product-down-le : (a c r : ℕ) → a ≤ U → c ≤ U → r ≡ carried 0 (a * c) → r ≤ U
-unfolding carried
-product-down-le a c r h k e = let s : a * c ≤ U * U = mul-le-mul h k in omega arith
-
-pub product-up-le : (a c r : ℕ) → a ≤ U → c ≤ U → r ≡ carried 999_999 (a * c) → r ≤ U
-unfolding carried
-product-up-le a c r h k e = let s : a * c ≤ U * U = mul-le-mul h k in omega arith
 
 -- A quotient rounded up is at most the number.
 pub divided-up-le : (a n r : ℕ) → zero < n → r ≡ up a n → r ≤ a

@@ -5,16 +5,16 @@ use Rattle.pairs.specs.declared.answer.Pair.{Pair}
 use Rattle.pairs.specs.Arithmetic.{Arithmetic}
 use Rattle.pairs.specs.Rounded as rounded
 use Rattle.pairs.specs.Rounded.{U}
-use Rattle.pairs.specs.Figures.{Figures, given, refuse, after}
+use Rattle.pairs.specs.Figures.{Figures, given, refused, refuse, after}
 use Rattle.pairs.specs.Series as series
 
 -- "61, a pair whose low end is above its high end": tested of every pair that comes in, before anything else.
 unfoldable pub admitted : Pair → Figures
-admitted p = refuse (ltb (p .high) (p .low)) 61 (given p)
+admitted p = refuse (ltb (p .high) (p .low)) (refused 61) (given p)
 
 -- "64, the high end of the result or of a step in it is 2^64 trillionths or more."
 unfoldable pub fitting : Pair → Figures
-fitting p = refuse (leb (2 ^ 64) (p .high)) 64 (given p)
+fitting p = refuse (leb (2 ^ 64) (p .high)) (refused 64) (given p)
 
 unfoldable pub constant : ℕ → ℕ → Figures
 constant n d = fitting (rounded.constant n d)
@@ -30,13 +30,13 @@ product a b = after a (after b (fitting (rounded.product (a .pair) (b .pair))))
 
 -- "62, a divisor whose low end is 0, or the whole number 0 after over."
 unfoldable pub quotient : Figures → Figures → Figures
-quotient a b = after a (after b (refuse (eqb (b .pair .low) 0) 62 (fitting (rounded.quotient (a .pair) (b .pair)))))
+quotient a b = after a (after b (refuse (eqb (b .pair .low) 0) (refused 62) (fitting (rounded.quotient (a .pair) (b .pair)))))
 
 unfoldable pub times : Figures → ℕ → Figures
 times a n = after a (fitting (rounded.times (a .pair) n))
 
 unfoldable pub over : Figures → ℕ → Figures
-over a n = after a (refuse (eqb n 0) 62 (fitting (rounded.over (a .pair) n)))
+over a n = after a (refuse (eqb n 0) (refused 62) (fitting (rounded.over (a .pair) n)))
 
 -- "Trials inside a root or fifth root are no steps."
 unfoldable pub root : Figures → Figures
@@ -53,13 +53,13 @@ high-only a = after a (fitting (rounded.high-only (a .pair)))
 
 -- "63, a high end above 1 in arc, above 1/3 (the pair's high end) in H, or y's high end 256 or more in exp."
 unfoldable pub at-most-one : Figures → Figures
-at-most-one a = after a (refuse (ltb U (a .pair .high)) 63 a)
+at-most-one a = after a (refuse (ltb U (a .pair .high)) (refused 63) a)
 
 unfoldable pub at-most-a-third : Figures → Figures
-at-most-a-third a = after a (refuse (ltb (rounded.up (U * U) (3 * U)) (a .pair .high)) 63 a)
+at-most-a-third a = after a (refuse (ltb (rounded.up (U * U) (3 * U)) (a .pair .high)) (refused 63) a)
 
 unfoldable pub below-256 : Figures → Figures
-below-256 a = after a (refuse (leb (256 * U) (a .pair .high)) 63 a)
+below-256 a = after a (refuse (leb (256 * U) (a .pair .high)) (refused 63) a)
 
 -- The arithmetic of answers: a pair with ends below 2^64, or the refusal that stays.
 abbrev pub answers : Arithmetic

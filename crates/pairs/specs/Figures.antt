@@ -30,10 +30,11 @@ abbrev pub figures : Answer → Figures
 figures (Is p) = given p
 figures (Refused why) = refused (number-of why)
 
--- The number where the test holds, else what follows: "the first number that applies, in the order written, is given."
-abbrev pub refuse : Bool → ℕ → Figures → Figures
-refuse true n f = refused n
-refuse false n f = f
+-- The refusal where the test holds, else what follows: "the first number that applies, in the order written, is given."
+-- Once for all that can be refused: a pair operation, a flux, a sheet.
+abbrev pub refuse : {R : Type 0} → Bool → R → R → R
+refuse true refusal rest = refusal
+refuse false refusal rest = rest
 
 -- What follows, unless a was refused: then that refusal stays.
 abbrev pub after : Figures → Figures → Figures

@@ -35,10 +35,7 @@ Gives a f = (figures a ≡ f) × in-order a
 unfoldable pub square-rule : ℕ → ℕ → Bool
 square-rule i row = leb (row * row) (65_536 * i) && ltb (65_536 * i) ((row + 1) * (row + 1))
 
--- The rule at every row, the first counted i.
+-- The rule at every row, the first being that of i.
 unfoldable pub every-row : ℕ → List ℕ → Bool
 every-row i [] = true
 every-row i (row ∷ rows) = square-rule i row && every-row (suc i) rows
-
-abbrev pub obeys : List ℕ → Bool
-obeys rows = every-row 256 rows

@@ -16,7 +16,7 @@ ghost use Rattle.pairs.specs.Figures.{figures};
 ghost use Rattle.pairs.specs.Answers.{root-of};
 ghost use lib.Dec.{T};
 ghost use lib.ListN.{length};
-ghost use Rattle.pairs.specs.Private.{obeys};
+ghost use Rattle.pairs.specs.Private.{square-rule, every-row};
 
 // Row i, for i from 256 to 1,023, is the whole part of the root of 65,536·i.
 const ROWS: [u16; 768] = [
@@ -790,9 +790,9 @@ const ROWS: [u16; 768] = [
     8187,
 ];
 
-// Each row obeys the square rule.
+// The table: the square rule holds at every row.
 fn rows() -> [u16; 768]
-    ensures { λ r. ⌜ (length r ≡ 768) × T (obeys r) ⌝ }
+    ensures { λ r. ⌜ (length r ≡ 768) × T (every-row 256 r) ⌝ }
 {
     ROWS
 }
@@ -800,7 +800,7 @@ fn rows() -> [u16; 768]
 // The row of i.
 fn row(i: u64) -> u64
     requires { ⌜ (256 ≤ i) × (i < 1024) ⌝ }
-    ensures { λ r. ⌜ (r * r ≤ 65_536 * i) × (65_536 * i < (r + 1) * (r + 1)) ⌝ }
+    ensures { λ r. ⌜ T (square-rule i r) ⌝ }
 {
     let table = rows();
     table[(i - 256) as usize] as u64

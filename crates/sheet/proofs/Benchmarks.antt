@@ -1,13 +1,12 @@
 -- The benchmarks of document 01, A to J, as one theorem. Roots are named by the laws of their searches; the rest computes.
 -- Assumes nothing.
-use mathlib.Core.Path.{_≡_, refl, sym, ap, _∙_}
-use Prim.Native.Nat.{ℕ, suc, _*_, _≤_, _<_}
+use mathlib.Core.Path.{_≡_, refl}
+use Prim.Native.Nat.{_*_, _≤_, _<_}
 use lib.Dec.{lit<, lit≤}
-use Rattle.pairs.specs.declared.answer.Pair.{Pair}
 use Rattle.pairs.specs.Rounded as rounded
 use Rattle.pairs.specs.Rounded.{U, ends, root-down, root-up, fifth-root-down, fifth-root-up, fifth-power-up, fifth-power-down, up, down}
-use Rattle.pairs.specs.Figures.{Figures, given}
-use Rattle.pairs.specs.Answers.{admitted, fitting, root, fifth-root, product, quotient, difference, root-of, fifth-root-of, product-of, quotient-of, difference-of}
+use Rattle.pairs.specs.Figures.{given}
+use Rattle.pairs.specs.Answers.{admitted, fitting, root, fifth-root, product, quotient, difference, root-of, fifth-root-of}
 use Rattle.pairs.proofs.Search.{root-down-is, root-up-is, fifth-root-down-is, fifth-root-up-is}
 use Rattle.sheet.specs.Bytes.{two}
 use Rattle.sheet.specs.Reading.{fuels-of, pools-of, targets-of, fuel-index, pool-index, some, no-fuel, no-pool, section, after-sections, from-targets, from-pools, reading-of}

@@ -1,12 +1,11 @@
 -- The bytes of a fill: ten for a target, the targets one after the other, and which case of the definition holds.
 -- By the laws of writes in a row. Assumes nothing.
-use mathlib.Core.Path.{_≡_, refl, sym, ap, _∙_}
-use mathlib.Core.Bool.{Bool, true, false}
+use mathlib.Core.Path.{_≡_, refl, ap, _∙_}
 use mathlib.Core.List.{List, [], _∷_, _++_}
 use Prim.Native.Nat.{ℕ, zero, suc, _+_, _*_, _≤_, _<_}
 use native.Mathlib.Numerals.{add-one}
 use native.Mathlib.Omega.{arith}
-use lib.ListN.{length, take, drop, set, length-append}
+use lib.ListN.{length, drop, set, length-append}
 use borrow.Author.Tests.{lt-ltb, le-ltb}
 use Rattle.chain.specs.Flux.{Shown}
 use Rattle.sheet.specs.declared.reading.Counts.{Counts}
@@ -17,7 +16,7 @@ use Rattle.sheet.specs.Layout.{answer-size}
 use Rattle.sheet.specs.Bytes.{four-bytes}
 use Rattle.sheet.specs.Reading.{Outcome, outcome, number-of, refused, reading-of}
 use Rattle.sheet.specs.Target.{shown-of}
-use Rattle.sheet.specs.Fill.{ten-bytes, answers, Filled, written, untouched, with-room, fill-after, fill-of}
+use Rattle.sheet.specs.Fill.{ten-bytes, answers, written, untouched, with-room, fill-after, fill-of}
 use Rattle.sheet.specs.Private.{pasted}
 use Rattle.sheet.proofs.Pasting.{store, join, store-after}
 

@@ -1,9 +1,9 @@
 -- A longer input than the longest accepted sheet is refused, by the same number as its first 4,423 bytes: no program need read more.
 -- Every section that passes ends before those bytes do, so both are read alike. Assumes nothing.
-use mathlib.Core.Path.{_≡_, refl, sym, ap, _∙_}
+use mathlib.Core.Path.{_≡_, refl, sym, _∙_}
 use mathlib.Core.Bool.{Bool, true, false}
 use mathlib.Core.List.{List}
-use Prim.Native.Nat.{ℕ, zero, suc, _+_, _*_, _≤_, _<_}
+use Prim.Native.Nat.{ℕ, suc, _+_, _*_, _≤_, _<_}
 use native.Mathlib.Nat.{mul-le-mul-left}
 use native.Mathlib.Decide.{decLt}
 use native.Mathlib.Omega.{arith}
@@ -11,9 +11,10 @@ use lib.ListN.{length, take}
 use lib.Seq.{length-take-le, getD-take, take-all}
 use lib.Dec.{ltb}
 use borrow.Author.Tests.{ltb-false, lt-ltb, le-ltb}
+use Rattle.pairs.specs.Figures.{refuse}
 use Rattle.sheet.specs.Layout.{count-size, fuel-size, most-fuels, pool-size, most-pools, target-size, most-targets, pools-start, targets-start, sheet-end, longest}
 use Rattle.sheet.specs.Bytes.{two}
-use Rattle.sheet.specs.Reading.{Outcome, refused, refuse, section, fuels-of, pools-of, targets-of, after-sections, from-targets, from-pools, reading-of}
+use Rattle.sheet.specs.Reading.{Outcome, refused, section, fuels-of, pools-of, targets-of, after-sections, from-targets, from-pools, reading-of}
 use Rattle.sheet.specs.Fill.{fill-of}
 use Rattle.sheet.specs.Report.{text-of, report-of}
 
@@ -26,16 +27,16 @@ pub record Alike (o p : Outcome) : Type 0 where
 -- A section with room for as many records as it may have.
 roomy :
     (s : List ℕ) (start size most : ℕ) (rest : Outcome) → start + count-size + size * most ≤ length s
-    → section s start size most rest ≡ refuse (ltb most (two s start)) 2 rest
+    → section s start size most rest ≡ refuse (ltb most (two s start)) (refused 2) rest
 unfolding section
 roomy s start size most rest h =
     rw (le-ltb (length s) (start + count-size) (omega arith)) (by-count (ltb most (two s start)) refl)
   where
-    by-count : (b : Bool) → ltb most (two s start) ≡ b → refuse b 2 (refuse (ltb (length s) (start + count-size + size * two s start)) 1 rest) ≡ refuse b 2 rest
+    by-count : (b : Bool) → ltb most (two s start) ≡ b → refuse b (refused 2) (refuse (ltb (length s) (start + count-size + size * two s start)) (refused 1) rest) ≡ refuse b (refused 2) rest
     by-count true e = refl
     by-count false e = rw (le-ltb (length s) (start + count-size + size * two s start) (omega (arith, mul-le-mul-left size (ltb-false most (two s start) e))))
 
-by-limit : (b : Bool) (o p : Outcome) → (b ≡ false → Alike o p) → Alike (refuse b 2 o) (refuse b 2 p)
+by-limit : (b : Bool) (o p : Outcome) → (b ≡ false → Alike o p) → Alike (refuse b (refused 2) o) (refuse b (refused 2) p)
 by-limit true o p h = record { least = 1; first = refl; second = refl }
 by-limit false o p h = h refl
 

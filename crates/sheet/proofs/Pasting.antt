@@ -2,12 +2,12 @@
 -- By the laws of take, drop and append. Assumes nothing.
 use mathlib.Core.Path.{_≡_, refl, sym, ap, _∙_}
 use mathlib.Core.List.{List, [], _∷_, _++_, append-assoc}
-use Prim.Native.Nat.{ℕ, zero, suc, _+_, _≤_, _<_}
+use Prim.Native.Nat.{ℕ, _+_, _≤_, _<_}
 use native.Mathlib.Nat.{add-assoc, add-zero}
 use native.Mathlib.Numerals.{add-one}
 use native.Mathlib.Omega.{arith}
-use lib.ListN.{length, take, drop, set, length-append, take-append-drop, getD, length-take, length-drop}
-use lib.Seq.{take-suc, set-split, length-take-le, take-at, drop-at, drop-append-add, take-append-seam, drop-drop}
+use lib.ListN.{length, take, drop, set, length-append, take-append-drop, getD, length-drop}
+use lib.Seq.{take-suc, set-split, length-take-le, take-at, drop-append-add, drop-drop}
 use Rattle.sheet.specs.Private.{pasted, Put}
 
 -- A store is a write of one byte.

@@ -1,12 +1,12 @@
 -- Where a target of an accepted sheet has its pool and its fuel, and that both are there.
 -- By the counts and indices that reading has tested. Assumes nothing.
-use mathlib.Core.Path.{_≡_, refl, sym, ap, _∙_}
+use mathlib.Core.Path.{_≡_, _∙_}
 use mathlib.Core.List.{List}
-use Prim.Native.Nat.{ℕ, _+_, _*_, _<_}
+use Prim.Native.Nat.{ℕ, _+_, _<_}
 use Rattle.chain.specs.Flux.{flux-of}
 use Rattle.sheet.specs.Layout.{fuel-index-offset, fuel-at, pool-at, target-at}
 use Rattle.sheet.specs.Bytes.{two}
-use Rattle.sheet.specs.Reading.{fuels-of, pools-of, fuel-index, pool-index}
+use Rattle.sheet.specs.Reading.{fuel-index, pool-index}
 use Rattle.sheet.specs.Target.{enquiry-at, enquiry-of, shown-of}
 use Rattle.sheet.specs.Private.{Sound}
 

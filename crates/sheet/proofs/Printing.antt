@@ -1,13 +1,12 @@
 -- The text: a line of five fields, the lines one after the other, and which case of the definition holds.
 -- By the laws of writes in a row and the number of digits. Assumes nothing.
-use mathlib.Core.Path.{_≡_, refl, sym, ap, _∙_}
+use mathlib.Core.Path.{_≡_, refl, ap, _∙_}
 use mathlib.Core.Bool.{Bool, true, false}
-use mathlib.Core.List.{List, [], _∷_, _++_}
-use Prim.Native.Nat.{ℕ, zero, suc, _+_, _*_, _^_, _≤_, _<_}
+use mathlib.Core.List.{List, [], _++_}
+use Prim.Native.Nat.{ℕ, _+_, _^_, _≤_, _<_}
 use native.Mathlib.Numerals.{add-one}
 use native.Mathlib.Omega.{arith}
 use lib.ListN.{length, drop, length-append, length-drop}
-use lib.Seq.{take-length}
 use lib.Dec.{ltb}
 use borrow.Author.Tests.{lt-ltb, le-ltb}
 use Rattle.chain.specs.Flux.{Shown}
@@ -17,7 +16,7 @@ use Rattle.sheet.specs.declared.reading.Fault.the-variants.{CutShort, To
 use Rattle.sheet.specs.declared.reading.Reading.the-variants.{Accepted, Refused}
 use Rattle.sheet.specs.Reading.{Outcome, outcome, number-of, refused, reading-of}
 use Rattle.sheet.specs.Target.{shown-of}
-use Rattle.sheet.specs.Report.{field, space, line-feed, line, lines, targets-word, sheet-word, figures-text, refused-text, text-after, text-of, line-room, report-room, Reported, either, printed, report-of}
+use Rattle.sheet.specs.Report.{field, space, line-feed, line, lines, targets-word, sheet-word, figures-text, refused-text, text-after, text-of, line-room, report-room, either, printed, report-of}
 use Rattle.sheet.specs.Private.{pasted, Put}
 use Rattle.sheet.proofs.Pasting.{then, nothing}
 use Rattle.sheet.proofs.Digits.{short-field}

@@ -10,16 +10,16 @@ use native.Mathlib.Omega.{arith}
 use lib.ListN.{length}
 use lib.Dec.{leb, ltb}
 use borrow.Author.Tests.{ltb-false, leb-false, lt-ltb, le-ltb, lt-leb, le-leb}
-use Rattle.sheet.specs.declared.reading.Counts.{Counts}
+use Rattle.pairs.specs.Figures.{refuse}
 use Rattle.sheet.specs.declared.reading.Fault.{Fault}
 use Rattle.sheet.specs.declared.reading.Fault.the-variants.{CutShort, TooMany}
-use Rattle.sheet.specs.declared.reading.Reading.the-variants.{Accepted, Refused}
+use Rattle.sheet.specs.declared.reading.Reading.the-variants.{Refused}
 use Rattle.sheet.specs.declared.reading.Section.{Section}
 use Rattle.sheet.specs.declared.reading.Section.the-variants as section
 use Rattle.sheet.specs.Layout.{count-size, fuel-size, most-fuels, pool-size, most-pools, target-size, most-targets, fuel-index-offset, pools-start, targets-start, sheet-end}
 use Rattle.sheet.specs.Bytes.{two}
 use Rattle.sheet.specs.Reading as reading
-use Rattle.sheet.specs.Reading.{Outcome, refused, number-of, outcome, refuse, fuels-of, pools-of, targets-of, fuel-index, pool-index, some, no-fuel, no-pool, after-sections, from-targets, from-pools, reading-of}
+use Rattle.sheet.specs.Reading.{Outcome, refused, number-of, fuels-of, pools-of, targets-of, fuel-index, pool-index, some, no-fuel, no-pool, after-sections, from-targets, from-pools, reading-of}
 use Rattle.sheet.specs.Private.{choose, section-of, stray, Sound}
 
 -- A test of the numbers below n: one passes, or none does.
@@ -73,7 +73,7 @@ continued (section.Refused why) o = refused (number-of why)
 
 by-tests :
     (a b c : Bool) (n : ℕ) (o : Outcome)
-    → refuse a 1 (refuse b 2 (refuse c 1 o)) ≡ continued (choose a (section.Refused CutShort) (choose b (section.Refused TooMany) (choose c (section.Refused CutShort) (section.Holds n)))) o
+    → refuse a (refused 1) (refuse b (refused 2) (refuse c (refused 1) o)) ≡ continued (choose a (section.Refused CutShort) (choose b (section.Refused TooMany) (choose c (section.Refused CutShort) (section.Holds n)))) o
 by-tests true b c n o = refl
 by-tests false true c n o = refl
 by-tests false false true n o = refl
@@ -118,7 +118,7 @@ holding s start size most n e =
     }
 
 -- A test that was passed on the way to state 0.
-passed : (b : Bool) (k : ℕ) (x o : Outcome) → refuse b (suc k) x ≡ o → o .state ≡ 0 → (b ≡ false) × (x ≡ o)
+passed : (b : Bool) (k : ℕ) (x o : Outcome) → refuse b (refused (suc k)) x ≡ o → o .state ≡ 0 → (b ≡ false) × (x ≡ o)
 passed true k x o e z = let w : suc k ≡ o .state = ap (λ (y : Outcome). y .state) e in absurd (omega arith)
 passed false k x o e z = (refl, e)
 

@@ -6,7 +6,7 @@ use Rattle.pairs.specs.declared.answer.Pair.{Pair}
 use Rattle.pairs.specs.Rounded.{U, ends}
 use Rattle.pairs.specs.Figures.{given}
 use Rattle.pairs.specs.Answers.{root-of, fifth-root-of, product-of, quotient-of, difference-of}
-use Rattle.sheet.specs.Reading.{Outcome, refused, reading-of}
+use Rattle.sheet.specs.Reading.{refused, reading-of}
 
 -- The pair of a whole number.
 abbrev pub whole : ℕ → Pair

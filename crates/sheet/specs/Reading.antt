@@ -1,10 +1,10 @@
 -- Document 01, "Reading a sheet" under "Turned back": what reading gives, on all bytes.
 use Prim.Native.Nat.{ℕ, zero, suc, _+_, _*_}
-use mathlib.Core.Bool.{Bool, true, false, _||_}
+use mathlib.Core.Bool.{Bool, false, _||_}
 use mathlib.Core.List.{List}
 use lib.ListN.{length}
 use lib.Dec.{leb, ltb}
-use Rattle.sheet.specs.declared.reading.Counts.{Counts}
+use Rattle.pairs.specs.Figures.{refuse}
 use Rattle.sheet.specs.declared.reading.Fault.{Fault}
 use Rattle.sheet.specs.declared.reading.Fault.the-variants.{CutShort, TooMany, LeftOver, NoFuel, NoPool}
 use Rattle.sheet.specs.declared.reading.Reading.{Reading}
@@ -34,11 +34,6 @@ number-of NoPool = 5
 abbrev pub outcome : Reading → Outcome
 outcome (Accepted n) = record { state = 0; fuels = n .fuels; pools = n .pools; targets = n .targets }
 outcome (Refused why) = refused (number-of why)
-
--- The number where the test holds, else what follows: "the first number that applies, in the order written, is given."
-abbrev pub refuse : Bool → ℕ → Outcome → Outcome
-refuse true n o = refused n
-refuse false n o = o
 
 -- The count of each section stands at its start.
 unfoldable pub fuels-of : List ℕ → ℕ
@@ -73,16 +68,16 @@ no-pool s = some (λ i. leb (pools-of s) (pool-index s i)) (targets-of s)
 -- 1 again, its records run past the end." Else what follows.
 unfoldable pub section : List ℕ → ℕ → ℕ → ℕ → Outcome → Outcome
 section s start size most rest =
-    refuse (ltb (length s) (start + count-size)) 1
-    (refuse (ltb most (two s start)) 2
-    (refuse (ltb (length s) (start + count-size + size * two s start)) 1 rest))
+    refuse (ltb (length s) (start + count-size)) (refused 1)
+    (refuse (ltb most (two s start)) (refused 2)
+    (refuse (ltb (length s) (start + count-size + size * two s start)) (refused 1) rest))
 
 -- "After all three sections, in this order: 3, bytes left over; 4, ..; 5, .."
 unfoldable pub after-sections : List ℕ → Outcome
 after-sections s =
-    refuse (ltb (sheet-end (fuels-of s) (pools-of s) (targets-of s)) (length s)) 3
-    (refuse (no-fuel s) 4
-    (refuse (no-pool s) 5
+    refuse (ltb (sheet-end (fuels-of s) (pools-of s) (targets-of s)) (length s)) (refused 3)
+    (refuse (no-fuel s) (refused 4)
+    (refuse (no-pool s) (refused 5)
     (record { state = 0; fuels = fuels-of s; pools = pools-of s; targets = targets-of s })))
 
 unfoldable pub from-targets : List ℕ → Outcome

@@ -1,5 +1,4 @@
 // Bytes of text into a lent buffer. Each function writes from `at` on and answers the place after what it wrote.
-ghost use mathlib.Core.Path.{_≡_};
 ghost use Prim.Native.Nat.{_+_, _≤_};
 ghost use lib.ListN.{length};
 ghost use Rattle.sheet.specs.Report.{decimal, field};

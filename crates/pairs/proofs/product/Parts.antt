@@ -1,7 +1,7 @@
 -- The rounded product by parts: by base 10^6 for numbers of at most 1, and by units and fractions for any.
 -- Assumes nothing.
 use mathlib.Core.Path.{_≡_, refl, sym, ap, ap₂, _∙_}
-use Prim.Native.Nat.{ℕ, zero, suc, _+_, _*_, _-_, _/_, _%_, _^_, _≤_, _<_}
+use Prim.Native.Nat.{ℕ, _+_, _*_, _-_, _/_, _%_, _^_, _≤_, _<_}
 use native.Mathlib.Nat.{mul-le-mul, div-add-mod', add-zero}
 use native.Mathlib.Omega.{arith}
 use Rattle.pairs.specs.Rounded.{U, down, up}

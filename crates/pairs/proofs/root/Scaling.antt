@@ -1,42 +1,48 @@
 -- The even scaling of a radicand by its leading zero bits, and the two steps that start its root.
 -- Assumes nothing.
-use mathlib.Core.Path.{_≡_, sym, ap, _∙_, subst}
-use Prim.Native.Nat.{ℕ, zero, suc, _+_, _*_, _-_, _/_, _%_, _^_, _≤_, _<_}
+use mathlib.Core.Path.{_≡_, sym, ap, _∙_}
+use Prim.Native.Nat.{ℕ, zero, _+_, _*_, _-_, _/_, _%_, _^_, _≤_, _<_}
 use native.Mathlib.Nat.{le-trans, mul-le-mul, mul-le-mul-left, mul-le-mul-right, mul-comm, le-div-iff-mul-le, div-lt-iff-lt-mul}
 use native.Mathlib.Decide.{decLt, decLe}
 use native.Mathlib.Omega.{arith}
-use lib.Pow.{pow-pos, pow-mono, pow-add, shr-le}
+use lib.Dec.{T, leb, ltb, leb→le, ltb→lt}
+use lib.Ieee.Fits.{and-l, and-r}
+use lib.Pow.{pow-pos, pow-mono, pow-add}
 use lib.Count.{leadingZeros, leading-top}
-use Rattle.pairs.proofs.words.Digits.{Leading, leading}
+use Rattle.pairs.specs.Private.{square-rule}
 use Rattle.pairs.proofs.Ordered.{square-cancels}
-
--- rows are from 4,096 to 8,191
-pub row-span : (i r : ℕ) → 256 ≤ i → i < 1024 → r * r ≤ 65_536 * i → 65_536 * i < (r + 1) * (r + 1) → (4096 ≤ r) × (r ≤ 8191)
-row-span i r h k l u = (
-  elim (decLe 4096 r) [ yes g ↦ g | no g ↦ absurd (small r u (mul-le-mul {n₂ = 4096} {m₂ = 4096} (omega arith) (omega arith))) ],
-  square-cancels r 8191 (omega arith),
-)
-  where
-    small : (r : ℕ) → 65_536 * i < (r + 1) * (r + 1) → (r + 1) * (r + 1) ≤ 4096 * 4096 → ⊥
-    small r u m = omega arith
 
 quotient-lt : (n d m : ℕ) → zero < d → n < m * d → n / d < m
 quotient-lt n d m p h = div-lt-iff-lt-mul {k = d} {x = n} {y = m} p .1 h
 
--- two steps from a row's scaled root stay within 36 bits
+-- two steps from the scaled row of a word's ten upper bits stay within 36 bits
 pub record Steps (w r : ℕ) : Type 0 where
+  pub least : 4096 ≤ r
+  pub most : r ≤ 8191
   pub quotient : w / (r * 524_288) < 2 ^ 33
   pub second : 2 ^ 30 ≤ (r * 524_288 + w / (r * 524_288)) / 2
   pub quotient-2 : w / ((r * 524_288 + w / (r * 524_288)) / 2) < 2 ^ 34
 
-pub steps : (w r : ℕ) → w < 2 ^ 64 → 4096 ≤ r → Steps w r
-steps w r f h =
-    let s : 2 ^ 30 ≤ (r * 524_288 + w / (r * 524_288)) / 2 = omega arith in
+pub steps : (w r : ℕ) → 2 ^ 62 ≤ w → w < 2 ^ 64 → T (square-rule (w / 2 ^ 54) r) → Steps w r
+unfolding square-rule
+steps w r h f t =
+    let i = w / 2 ^ 54 in
+    let below = leb (r * r) (65_536 * i) in
+    let above = ltb (65_536 * i) ((r + 1) * (r + 1)) in
+    let l : r * r ≤ 65_536 * i = leb→le _ _ (and-l below above t) in
+    let u : 65_536 * i < (r + 1) * (r + 1) = ltb→lt _ _ (and-r below above t) in
+    let least : 4096 ≤ r = elim (decLe 4096 r) [ yes g ↦ g | no g ↦ absurd (small i r (omega arith) u (mul-le-mul {n₂ = 4096} {m₂ = 4096} (omega arith) (omega arith))) ] in
+    let second : 2 ^ 30 ≤ (r * 524_288 + w / (r * 524_288)) / 2 = omega arith in
     record {
+      least = least;
+      most = square-cancels r 8191 (omega arith);
       quotient = quotient-lt w (r * 524_288) (2 ^ 33) (omega arith) (omega arith);
-      second = s;
+      second = second;
       quotient-2 = quotient-lt w ((r * 524_288 + w / (r * 524_288)) / 2) (2 ^ 34) (omega arith) (omega arith);
     }
+  where
+    small : (i r : ℕ) → 256 ≤ i → 65_536 * i < (r + 1) * (r + 1) → (r + 1) * (r + 1) ≤ 4096 * 4096 → ⊥
+    small i r h u m = omega arith
 
 -- a word with its top bit set, halved where the number of zeros was odd
 pub evened : (x z : ℕ) → 2 ^ 63 ≤ x → 2 ^ 62 ≤ x / 2 ^ (z % 2)

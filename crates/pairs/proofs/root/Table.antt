@@ -1,14 +1,13 @@
--- A table that obeys the square rule has it at each row. By a walk along the rows. Assumes nothing.
+-- A table whose every row passes the square rule has it at the row of i. By a walk along the rows. Assumes nothing.
 use mathlib.Core.Path.{_≡_, sym, subst, _∙_}
-use mathlib.Core.Bool.{Bool, _&&_}
 use mathlib.Core.List.{List, [], _∷_}
-use Prim.Native.Nat.{ℕ, zero, suc, _+_, _*_, _-_, _≤_, _<_}
+use Prim.Native.Nat.{ℕ, zero, suc, _+_, _-_, _≤_, _<_}
 use native.Mathlib.Nat.{le-of-suc-le-suc, not-suc-le-zero, add-zero, add-suc, suc-add}
 use native.Mathlib.Omega.{arith}
-use lib.Dec.{T, leb, ltb, leb→le, ltb→lt}
+use lib.Dec.{T}
 use lib.Ieee.Fits.{and-l, and-r}
 use lib.ListN.{length, getD}
-use Rattle.pairs.specs.Private.{square-rule, every-row, obeys}
+use Rattle.pairs.specs.Private.{square-rule, every-row}
 
 row-passes : (i : ℕ) (rows : List ℕ) → T (every-row i rows) → (k : ℕ) → k < length rows → T (square-rule (i + k) (getD rows k 0))
 unfolding every-row
@@ -18,16 +17,7 @@ row-passes i (x ∷ rows) t (suc k) h =
     subst (λ (n : ℕ). T (square-rule n (getD rows k 0))) (suc-add i k ∙ sym (add-suc i k))
     (row-passes (suc i) rows (and-r (square-rule i x) (every-row (suc i) rows) t) k (le-of-suc-le-suc h))
 
-module _ (rows : List ℕ) (obey : T (obeys rows)) (i : ℕ) (h : 256 ≤ i) (k : i < 256 + length rows) where
-  -- The row of i.
-  abbrev row : ℕ
-  row = getD rows (i - 256) 0
-
-  pub rule : (row * row ≤ 65_536 * i) × (65_536 * i < (row + 1) * (row + 1))
-  unfolding square-rule
-  rule =
-      let below = leb (row * row) (65_536 * i) in
-      let above = ltb (65_536 * i) ((row + 1) * (row + 1)) in
-      let together : 256 + (i - 256) ≡ i = omega arith in
-      let passes : T (below && above) = rw together at (row-passes 256 rows obey (i - 256) (omega arith)) in
-      (leb→le _ _ (and-l below above passes), ltb→lt _ _ (and-r below above passes))
+pub rule : (rows : List ℕ) → T (every-row 256 rows) → (i : ℕ) → 256 ≤ i → i < 256 + length rows → T (square-rule i (getD rows (i - 256) 0))
+rule rows t i h k =
+    let together : 256 + (i - 256) ≡ i = omega arith in
+    rw together at (row-passes 256 rows t (i - 256) (omega arith))

@@ -1,9 +1,8 @@
 -- Products and long division by digits of 32 bits, as facts about numbers.
 -- Assumes nothing.
-use mathlib.Core.Path.{_≡_, sym, ap, _∙_, subst}
-use mathlib.Core.Bool.{Bool}
+use mathlib.Core.Path.{_≡_, sym, ap, _∙_}
 use Prim.Native.Nat.{ℕ, zero, suc, _+_, _*_, _-_, _/_, _%_, _^_, _≤_, _<_}
-use native.Mathlib.Nat.{mul-le-mul, mul-le-mul-right, le-of-mul-le-mul-right, div-add-mod', div-eq-of-lt-le, div-eq-of-eq-mul-left, div-lt-iff-lt-mul, sub-add-cancel, add-mul}
+use native.Mathlib.Nat.{mul-le-mul, mul-le-mul-right, le-of-mul-le-mul-right, div-eq-of-lt-le, div-eq-of-eq-mul-left, div-lt-iff-lt-mul, sub-add-cancel, add-mul}
 use native.Mathlib.Decide.{decLt}
 use native.Mathlib.Omega.{arith}
 use lib.Dec.{ltb}

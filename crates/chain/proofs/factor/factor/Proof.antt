@@ -11,7 +11,7 @@ use Rattle.chain.specs.Flux.{outside}
 use Rattle.chain.specs.Factor.{factor-of}
 use Rattle.chain.proofs.Limits.{between}
 use Rattle.chain.proofs.FactorAlone.{factor-not-refused}
-use Rattle.chain.proofs.Given.{gives, never-refused}
+use Rattle.chain.proofs.Given.{pair-given, never-refused}
 use borrow.Author.Needs.{needs}
 use Rattle.chain.proofs.factor.factor.Statement.{statement}
 use Rattle.chain.proofs.factor.factor.Tie as tie
@@ -91,7 +91,7 @@ returns-4 c = let f = c .before .before .before in
     let h = sym (e1 .before .outside .ensures) ∙ e1 .if1 .left in
     let k = sym (e2 .before .outside2 .ensures) ∙ e2 .if2 .left in
     let m = sym (e3 .before .outside3 .ensures) ∙ e3 .if3 .left in
-    ap given (gives _ _ _ (worked _ _ _ h k m _ _ _ (f .before .before .exact .ensures .0) (f .before .exact2 .ensures .0) (f .factor-of .ensures .0)) (c .before .p .given .1))
+    ap given (pair-given _ _ _ (worked _ _ _ h k m _ _ _ (f .before .before .exact .ensures .0) (f .before .exact2 .ensures .0) (f .factor-of .ensures .0)) (c .before .p .given .1))
     ∙ inside _ _ _ h k m
 
 returns-5 : tie.Need-returns-5

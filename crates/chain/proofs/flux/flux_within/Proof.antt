@@ -17,7 +17,7 @@ use Rattle.chain.specs.declared.enquiry.Printed.{Printed}
 use Rattle.chain.specs.Private.{Limited, Prints}
 use Rattle.chain.proofs.Limits.{Tested, between, fuel}
 use Rattle.chain.proofs.Accepted.{within-limits-not-refused, accepted, shown}
-use Rattle.chain.proofs.Given.{gives, never-refused}
+use Rattle.chain.proofs.Given.{pair-given, never-refused}
 use borrow.Author.Needs.{needs}
 use Rattle.chain.proofs.flux.flux_within.Statement.{statement}
 use Rattle.chain.proofs.flux.flux_within.Tie as tie
@@ -25,9 +25,6 @@ use Rattle.chain.proofs.flux.flux_within.Tie as tie
 low-flame : (E : Enquiry) → Limited E → flame-too-low E ≡ true → refused 16 ≡ flux-of E
 unfolding flux-of
 low-flame E w e = rw (w .fuel, w .area, w .method, w .distance, w .face, e)
-
-tested : (E : Enquiry) → Limited E → flame-too-low E ≡ false → Tested E
-tested E w e = record { fuel = w .fuel; area = w .area; method = w .method; distance = w .distance; face = w .face; flame = e }
 
 -- what is printed of the chain's pair
 as-shown :
@@ -41,7 +38,7 @@ as-shown E q p t e h =
 
 -- the chain's pair where nothing refuses
 worked : (E : Enquiry) (a : Answer) (q : Pair) → Tested E → figures a ≡ chain.radiant-flux answers E → a ≡ Is q → q ≡ chain.radiant-flux rounded E
-worked E a q t e f = gives a (chain.radiant-flux rounded E) q (e ∙ accepted E t .flux-given) f
+worked E a q t e f = pair-given a (chain.radiant-flux rounded E) q (e ∙ accepted E t .flux-given) f
 
 small : (E : Enquiry) (q : Pair) → Tested E → q ≡ chain.radiant-flux rounded E → (q .low ≤ q .high) × (q .high ≤ 740 * U)
 small E q t e = let a = accepted E t in rw e (a .ordered, a .high)
@@ -76,7 +73,7 @@ printed-requires : tie.Need-printed-requires
 printed-requires c κs = let f = c .before .before .before in
     let e = f .before in
     let s = e .before .before .before .before .before in
-    let t = tested _ (s .pre) (sym (e .before .too-low .ensures) ∙ e .if1 .left) in
+    let t : Tested _ = record { limited = s .pre; flame = sym (e .before .too-low .ensures) ∙ e .if1 .left } in
     small _ _ t (worked _ _ _ t (f .radiant-flux .ensures .0) (c .before .q .given .1))
 
 enum-told : tie.Need-enum-told
@@ -86,14 +83,14 @@ returns-2 : tie.Need-returns-2
 returns-2 c = let f = c .before .before .before .before in
     let e = f .before in
     let s = e .before .before .before .before .before in
-    let t = tested _ (s .pre) (sym (e .before .too-low .ensures) ∙ e .if1 .left) in
+    let t : Tested _ = record { limited = s .pre; flame = sym (e .before .too-low .ensures) ∙ e .if1 .left } in
     as-shown _ _ _ t (worked _ _ _ t (f .radiant-flux .ensures .0) (c .before .before .q .given .1)) (c .printed .ensures)
 
 returns-3 : tie.Need-returns-3
 returns-3 c = let f = c .before .before in
     let e = f .before in
     let s = e .before .before .before .before .before in
-    let t = tested _ (s .pre) (sym (e .before .too-low .ensures) ∙ e .if1 .left) in
+    let t : Tested _ = record { limited = s .pre; flame = sym (e .before .too-low .ensures) ∙ e .if1 .left } in
     absurd (never-refused _ _ _ (f .radiant-flux .ensures .0 ∙ accepted _ t .flux-given) (c .enum-told .given .1))
 
 pub flux-within-spec : {M : Type 1} → statement M

@@ -11,7 +11,7 @@ use Rattle.pairs.specs.Rounded.{rounded}
 use Rattle.pairs.specs.Figures.{given}
 use Rattle.chain.specs.Chain as chain
 use Rattle.chain.specs.Flux.{flame-too-low}
-use Rattle.chain.proofs.Given.{gives, never-refused}
+use Rattle.chain.proofs.Given.{pair-given, never-refused}
 use Rattle.chain.specs.declared.enquiry.Enquiry.{Enquiry}
 use borrow.Author.Needs.{needs}
 use Rattle.chain.proofs.flux.too_low.Statement.{statement}
@@ -54,7 +54,7 @@ add-result-2 c = search needs
 
 returns-3 : tie.Need-returns-3
 returns-3 c = let s = c .before .before .before .before .before .before .before in
-    compared _ _ _ (gives _ _ _ (s .pre .0) (c .before .before .before .before .before .diameter .given .1)) (gives _ _ _ (s .pre .1) (c .before .before .height .given .1))
+    compared _ _ _ (pair-given _ _ _ (s .pre .0) (c .before .before .before .before .before .diameter .given .1)) (pair-given _ _ _ (s .pre .1) (c .before .before .height .given .1))
 
 pub too-low-spec : {M : Type 1} → statement M
 too-low-spec =

@@ -1,7 +1,7 @@
 -- `alternating_arc` meets its contract: the loop holds the power n and the sums of n terms, which change places at each term.
 -- Every power is at most 1 and every sum at most n, so nothing wraps. Assumes nothing.
 use mathlib.Core.Path.{_≡_, refl, ap}
-use Prim.Native.Nat.{ℕ, suc, _+_, _*_, _-_, _/_, _≤_}
+use Prim.Native.Nat.{ℕ, _+_, _*_, _-_, _/_, _≤_}
 use native.Mathlib.Numerals.{add-one}
 use native.Mathlib.Nat.{div-le-self}
 use native.Mathlib.Omega.{arith}

@@ -1,6 +1,6 @@
 -- `four_arcs` meets its contract: the arc's pair is in order and so has passed 61, and a refusal of either step stays.
 -- Assumes nothing.
-use mathlib.Core.Path.{_≡_, refl, sym}
+use mathlib.Core.Path.{_≡_, sym}
 use Rattle.pairs.specs.declared.answer.Pair.{Pair}
 use Rattle.pairs.specs.declared.answer.Refusal.{Refusal}
 use Rattle.pairs.specs.declared.answer.Answer.{Answer}

@@ -1,6 +1,6 @@
 -- `ln_ten` meets its contract: the definition, computed.
 -- Assumes nothing.
-use mathlib.Core.Path.{_≡_, refl, sym, ap, _∙_}
+use mathlib.Core.Path.{refl}
 use Rattle.pairs.specs.Rounded as rounded
 use Rattle.pairs.specs.Answers as answers
 use Rattle.pairs.specs.Series as series

@@ -1,7 +1,7 @@
 -- `alternating_exp` meets its contract: the loop holds the term n and the sums of n terms, which change places at each term.
 -- Every term is at most 1 and every sum at most n, so nothing wraps. Assumes nothing.
 use mathlib.Core.Path.{_≡_, refl, ap, _∙_}
-use Prim.Native.Nat.{ℕ, suc, _+_, _*_, _-_, _/_, _≤_}
+use Prim.Native.Nat.{ℕ, _+_, _*_, _-_, _/_, _≤_}
 use native.Mathlib.Numerals.{add-one}
 use native.Mathlib.Omega.{arith}
 use Rattle.pairs.specs.declared.answer.Pair.{Pair}

@@ -1,7 +1,7 @@
 -- `divided_up` meets its contract: the quotient, and one more where anything is left.
 -- Assumes nothing.
-use mathlib.Core.Path.{_≡_, refl, sym, ap, _∙_}
-use Prim.Native.Nat.{ℕ, zero, suc, _+_, _*_, _-_, _/_, _%_, _^_, _≤_, _<_}
+use mathlib.Core.Path.{_≡_, sym}
+use Prim.Native.Nat.{ℕ, zero, _+_, _-_, _/_, _%_, _^_, _<_}
 use native.Mathlib.Nat.{mod-lt, mul-le-mul-left, div-add-mod', div-eq-of-lt-le}
 use native.Mathlib.Omega.{arith}
 use Rattle.pairs.specs.Rounded.{up}

@@ -1,6 +1,5 @@
 -- `rounded_product` meets its contract: each part of the product is within the whole, which fits.
 -- Assumes nothing.
-use mathlib.Core.Path.{sym, _∙_}
 use native.Mathlib.Omega.{arith}
 use Rattle.pairs.proofs.product.Parts.{parts}
 use borrow.Author.Needs.{needs}

@@ -1,7 +1,6 @@
 -- `raised` meets its contract: a carry into the high word where the low words overflow.
 -- Assumes nothing.
-use mathlib.Core.Path.{_≡_}
-use Prim.Native.Nat.{ℕ, zero, suc, _+_, _*_, _-_, _/_, _%_, _^_, _≤_, _<_}
+use Prim.Native.Nat.{ℕ, _+_, _-_, _^_, _<_}
 use native.Mathlib.Omega.{arith}
 use Rattle.pairs.proofs.words.Digits.{scaled-high}
 use borrow.Author.Needs.{needs}

@@ -1,13 +1,13 @@
 -- `root_up_of` meets its contract: the least s with s·s at least b·U is one more than the root of b·U - 1.
 -- Assumes nothing.
-use mathlib.Core.Path.{_≡_, refl, sym, ap, _∙_}
-use Prim.Native.Nat.{ℕ, zero, suc, _+_, _*_, _-_, _/_, _%_, _^_, _≤_, _<_}
+use mathlib.Core.Path.{_≡_, _∙_}
+use Prim.Native.Nat.{ℕ, zero, _+_, _*_, _-_, _^_, _≤_, _<_}
 use native.Mathlib.Nat.{zero-mul, mul-le-mul}
 use native.Mathlib.Decide.{decLt}
 use native.Mathlib.Omega.{arith}
 use Rattle.pairs.specs.Rounded.{U, root-down, root-up}
 use Rattle.pairs.proofs.Search.{root-down-passes, root-down-next, root-up-is, root-up-bound}
-use Rattle.pairs.proofs.words.Digits.{scaled-high, scaled-above-0}
+use Rattle.pairs.proofs.words.Digits.{scaled-above-0}
 use borrow.Author.Needs.{needs}
 use Rattle.pairs.proofs.root.root_up_of.Statement.{statement}
 use Rattle.pairs.proofs.root.root_up_of.Tie as tie

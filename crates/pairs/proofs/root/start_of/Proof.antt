@@ -1,8 +1,6 @@
 -- `start_of` meets its contract: a·U is not 0, and its high word has at most 40 bits.
 -- Assumes nothing.
-use mathlib.Core.Path.{_≡_}
-use Prim.Native.Nat.{ℕ, zero, suc, _+_, _*_, _-_, _/_, _%_, _^_, _≤_, _<_}
-use native.Mathlib.Omega.{arith}
+use Prim.Native.Nat.{_-_}
 use Rattle.pairs.proofs.words.Digits.{scaled-high, scaled-above-0}
 use borrow.Author.Needs.{needs}
 use Rattle.pairs.proofs.root.start_of.Statement.{statement}

@@ -1,6 +1,6 @@
 -- `sum` meets its contract: 61 for either pair, then 64, then the sum.
 -- Assumes nothing.
-use mathlib.Core.Path.{_≡_, refl, sym, ap, _∙_}
+use mathlib.Core.Path.{refl}
 use native.Mathlib.Omega.{arith}
 use Rattle.pairs.specs.Rounded as rounded
 use Rattle.pairs.proofs.Turned.{sum-turned}

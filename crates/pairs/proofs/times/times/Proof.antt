@@ -1,7 +1,7 @@
 -- `times` meets its contract: 61, then 64, then the product.
 -- Assumes nothing.
 use mathlib.Core.Path.{_≡_, refl, sym, ap, ap₂, _∙_}
-use Prim.Native.Nat.{ℕ, zero, suc, _+_, _*_, _-_, _/_, _%_, _^_, _≤_, _<_}
+use Prim.Native.Nat.{ℕ, zero, _*_, _-_, _/_, _^_, _≤_, _<_}
 use native.Mathlib.Nat.{div-lt-iff-lt-mul, le-div-iff-mul-le, mul-zero}
 use native.Mathlib.Omega.{arith}
 use Rattle.pairs.specs.declared.answer.Pair.{Pair}

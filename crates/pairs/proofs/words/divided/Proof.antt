@@ -1,7 +1,7 @@
 -- `divided` meets its contract: two digits, each of what the one before it leaves.
 -- Assumes nothing.
-use mathlib.Core.Path.{_≡_, sym, ap, _∙_}
-use Prim.Native.Nat.{ℕ, zero, suc, _+_, _*_, _-_, _/_, _%_, _^_, _≤_, _<_}
+use mathlib.Core.Path.{sym}
+use Prim.Native.Nat.{_-_, _/_, _%_}
 use native.Mathlib.Nat.{div-add-mod'}
 use native.Mathlib.Omega.{arith}
 use Rattle.pairs.proofs.words.Digits.{B, upper, lower, digit-lt, two-digits}

@@ -1,6 +1,6 @@
 -- `multiplied` meets its contract: the four products of digits, added column by column, are the product.
 -- Assumes nothing.
-use Prim.Native.Nat.{ℕ, zero, suc, _+_, _*_, _-_, _/_, _%_, _^_, _≤_, _<_}
+use Prim.Native.Nat.{_-_, _/_, _%_}
 use native.Mathlib.Nat.{div-add-mod'}
 use native.Mathlib.Omega.{arith}
 use Rattle.pairs.proofs.words.Digits.{B, upper, lower, digits, columns}

@@ -2,9 +2,9 @@
 -- Assumes nothing.
 use mathlib.Core.Path.{_≡_}
 use Prim.Native.Nat.{ℕ, zero, suc, _+_, _*_, _-_, _/_, _%_, _^_, _≤_, _<_}
-use native.Mathlib.Nat.{mod-lt, div-add-mod', mul-le-mul, mul-le-mul-right}
+use native.Mathlib.Nat.{mod-lt, div-add-mod', mul-le-mul}
 use native.Mathlib.Omega.{arith}
-use Rattle.pairs.proofs.words.Digits.{B, lower, trial, trial-le, less-times}
+use Rattle.pairs.proofs.words.Digits.{B, trial, trial-le, less-times}
 use borrow.Author.Needs.{needs}
 use Rattle.pairs.proofs.words.trial_digit.Statement.{statement}
 use Rattle.pairs.proofs.words.trial_digit.Tie as tie

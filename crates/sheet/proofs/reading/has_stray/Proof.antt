@@ -1,8 +1,8 @@
 -- `has_stray` meets its contract: no index passed so far is `limit` or more.
 -- Assumes nothing.
 use mathlib.Core.Path.{_≡_, sym, ap, _∙_}
-use mathlib.Core.Bool.{true, false}
-use Prim.Native.Nat.{ℕ, _+_, _*_, _-_, _≤_, _<_}
+use mathlib.Core.Bool.{false}
+use Prim.Native.Nat.{ℕ, _+_, _*_, _-_, _≤_}
 use native.Mathlib.Omega.{arith}
 use Rattle.sheet.specs.Bytes.{two}
 use Rattle.sheet.specs.Private.{stray}
