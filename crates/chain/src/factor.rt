@@ -171,9 +171,9 @@ pub fn factor(l: u64, e: u64, face: u8) -> Factor
     if outside(face as u64, 1, 3) {
         return Factor::Refused(Outside::Face);
     }
-    match factor_of(face, exact(l), exact(e)) {
-        Answer::Is(p) => Factor::Is(p),
+    let Answer::Is(p) = factor_of(face, exact(l), exact(e)) else {
         // inside the limits no operation refuses
-        Answer::Refused(_) => Factor::Refused(Outside::Face),
-    }
+        return Factor::Refused(Outside::Face);
+    };
+    Factor::Is(p)
 }

@@ -88,11 +88,11 @@ fn flux_within(e: Enquiry) -> Flux
         return Flux::Refused(Turned::LowFlame);
     }
     let method = e.method;
-    match radiant_flux(e, across, heat, height) {
-        Answer::Is(q) => Flux::Is(printed(q, method)),
+    let Answer::Is(q) = radiant_flux(e, across, heat, height) else {
         // no operation refuses in an accepted chain
-        Answer::Refused(_) => Flux::Refused(Turned::TooLarge),
-    }
+        return Flux::Refused(Turned::TooLarge);
+    };
+    Flux::Is(printed(q, method))
 }
 
 // The radiant flux at a target.

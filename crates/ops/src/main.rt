@@ -15,17 +15,6 @@ use libc::STDOUT_FILENO;
 use line::numbers_in;
 use line::place_of;
 use pairs::answer::Answer;
-use pairs::answer::Refusal;
-
-// 61 to 64 of document 01.
-fn refusal_number(why: Refusal) -> u64 {
-    match why {
-        Refusal::Disordered => 61,
-        Refusal::ZeroDivisor => 62,
-        Refusal::OutOfSpan => 63,
-        Refusal::TooLarge => 64,
-    }
-}
 
 // 11 to 17 of document 01.
 fn turned_number(why: Turned) -> u64 {
@@ -60,10 +49,14 @@ fn print_pair(state: u64, low: u64, high: u64) {
     print_after_blank(high);
 }
 
+// 61 to 64 of document 01.
 fn print_operation(a: Answer) {
     match a {
         Answer::Is(p) => print_pair(0, p.low, p.high),
-        Answer::Refused(why) => print_pair(refusal_number(why), 0, 0),
+        Answer::Disordered => print_pair(61, 0, 0),
+        Answer::ZeroDivisor => print_pair(62, 0, 0),
+        Answer::OutOfSpan => print_pair(63, 0, 0),
+        Answer::TooLarge => print_pair(64, 0, 0),
     }
 }
 

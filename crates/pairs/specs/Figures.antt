@@ -2,10 +2,8 @@
 use Prim.Native.Nat.{ℕ, zero, suc}
 use mathlib.Core.Bool.{Bool, true, false}
 use Rattle.pairs.specs.declared.answer.Pair.{Pair}
-use Rattle.pairs.specs.declared.answer.Refusal.{Refusal}
-use Rattle.pairs.specs.declared.answer.Refusal.the-variants.{Disordered, ZeroDivisor, OutOfSpan, TooLarge}
 use Rattle.pairs.specs.declared.answer.Answer.{Answer}
-use Rattle.pairs.specs.declared.answer.Answer.the-variants.{Is, Refused}
+use Rattle.pairs.specs.declared.answer.Answer.the-variants.{Is, Disordered, ZeroDivisor, OutOfSpan, TooLarge}
 use Rattle.pairs.specs.Rounded.{ends}
 
 pub record Figures : Type 0 where
@@ -20,15 +18,12 @@ abbrev pub refused : ℕ → Figures
 refused n = record { number = n; pair = ends 0 0 }
 
 -- The numbers of "One pair operation".
-abbrev pub number-of : Refusal → ℕ
-number-of Disordered = 61
-number-of ZeroDivisor = 62
-number-of OutOfSpan = 63
-number-of TooLarge = 64
-
 abbrev pub figures : Answer → Figures
 figures (Is p) = given p
-figures (Refused why) = refused (number-of why)
+figures Disordered = refused 61
+figures ZeroDivisor = refused 62
+figures OutOfSpan = refused 63
+figures TooLarge = refused 64
 
 -- The refusal where the test holds, else what follows: "the first number that applies, in the order written, is given."
 -- Once for all that can be refused: a pair operation, a flux, a sheet.

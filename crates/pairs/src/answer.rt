@@ -6,15 +6,11 @@ pub struct Pair {
     pub high: u64,
 }
 
-// Why an operation is refused: 61, 62, 63 and 64 of document 01, in this order.
-pub enum Refusal {
+// A pair, or why there is none: 61, 62, 63 and 64 of document 01, in this order.
+pub enum Answer {
+    Is(Pair),
     Disordered,
     ZeroDivisor,
     OutOfSpan,
     TooLarge,
-}
-
-pub enum Answer {
-    Is(Pair),
-    Refused(Refusal),
 }

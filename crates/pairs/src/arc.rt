@@ -1,7 +1,6 @@
 // The arc tangent's series. Every sum here is at most some tens, so no step is refused.
 use super::answer::Answer;
 use super::answer::Pair;
-use super::answer::Refusal;
 use super::difference::less;
 use super::over::divided_up;
 use super::product::ROUND_UP;
@@ -51,10 +50,10 @@ pub fn arc(t: Pair) -> Answer
     ensures { λ r. ⌜ figures r ≡ arc-of t ⌝ }
 {
     if t.high < t.low {
-        return Answer::Refused(Refusal::Disordered);
+        return Answer::Disordered;
     }
     if UNIT < t.high {
-        return Answer::Refused(Refusal::OutOfSpan);
+        return Answer::OutOfSpan;
     }
     Answer::Is(alternating_arc(t))
 }

@@ -1,7 +1,6 @@
 // The arc tangent: the angle halved twice, the arc, times 4.
 use super::answer::Answer;
 use super::answer::Pair;
-use super::answer::Refusal;
 use super::arc::arc;
 use super::product::UNIT;
 use super::product::product;
@@ -83,7 +82,7 @@ pub fn atan(t: Pair) -> Answer
     ensures { λ r. ⌜ figures r ≡ atan-of t ⌝ }
 {
     if t.high < t.low {
-        return Answer::Refused(Refusal::Disordered);
+        return Answer::Disordered;
     }
     let once = half_angle(Answer::Is(t));
     let twice = half_angle(once);

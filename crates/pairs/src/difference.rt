@@ -1,7 +1,6 @@
 // The difference of two pairs.
 use super::answer::Answer;
 use super::answer::Pair;
-use super::answer::Refusal;
 ghost use mathlib.Core.Path.{_≡_};
 ghost use Prim.Native.Nat.{_-_};
 ghost use Rattle.pairs.specs.Figures.{figures};
@@ -19,10 +18,10 @@ pub fn difference(p: Pair, q: Pair) -> Answer
     ensures { λ r. ⌜ figures r ≡ difference-of p q ⌝ }
 {
     if p.high < p.low {
-        return Answer::Refused(Refusal::Disordered);
+        return Answer::Disordered;
     }
     if q.high < q.low {
-        return Answer::Refused(Refusal::Disordered);
+        return Answer::Disordered;
     }
     Answer::Is(Pair {
         low: less(p.low, q.high),

@@ -1,7 +1,6 @@
 // exp(-y): a series in y over 256, squared eight times.
 use super::answer::Answer;
 use super::answer::Pair;
-use super::answer::Refusal;
 use super::difference::less;
 use super::over::divided_up;
 use super::product::ROUND_UP;
@@ -63,10 +62,10 @@ pub fn exp_neg(y: Pair) -> Answer
     ensures { λ r. ⌜ figures r ≡ exp-neg-of y ⌝ }
 {
     if y.high < y.low {
-        return Answer::Refused(Refusal::Disordered);
+        return Answer::Disordered;
     }
     if 256_000_000_000_000 <= y.high {
-        return Answer::Refused(Refusal::OutOfSpan);
+        return Answer::OutOfSpan;
     }
     let z = Pair {
         low: y.low / 256,

@@ -2,7 +2,6 @@
 // fifth power decide.
 use super::answer::Answer;
 use super::answer::Pair;
-use super::answer::Refusal;
 use super::product::ROUND_UP;
 use super::product::rounded_product;
 use super::words::Words;
@@ -176,7 +175,7 @@ pub fn fifth_root(p: Pair) -> Answer
     ensures { λ r. ⌜ figures r ≡ fifth-root-of p ⌝ }
 {
     if p.high < p.low {
-        return Answer::Refused(Refusal::Disordered);
+        return Answer::Disordered;
     }
     Answer::Is(Pair {
         low: fifth_root_down_of(p.low),

@@ -1,7 +1,6 @@
 // H: the arc's terms, all plus.
 use super::answer::Answer;
 use super::answer::Pair;
-use super::answer::Refusal;
 use super::over::divided_up;
 use super::product::ROUND_UP;
 use super::product::fraction;
@@ -43,10 +42,10 @@ pub fn h_series(t: Pair) -> Answer
     ensures { λ r. ⌜ figures r ≡ h-series-of t ⌝ }
 {
     if t.high < t.low {
-        return Answer::Refused(Refusal::Disordered);
+        return Answer::Disordered;
     }
     if A_THIRD < t.high {
-        return Answer::Refused(Refusal::OutOfSpan);
+        return Answer::OutOfSpan;
     }
     Answer::Is(total_of_terms(t))
 }

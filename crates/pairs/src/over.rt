@@ -1,7 +1,6 @@
 // A pair over a whole number.
 use super::answer::Answer;
 use super::answer::Pair;
-use super::answer::Refusal;
 ghost use mathlib.Core.Path.{_≡_};
 ghost use Prim.Native.Nat.{_<_};
 ghost use Rattle.pairs.specs.Rounded.{up};
@@ -22,10 +21,10 @@ pub fn over(p: Pair, n: u64) -> Answer
     ensures { λ r. ⌜ figures r ≡ over-of p n ⌝ }
 {
     if p.high < p.low {
-        return Answer::Refused(Refusal::Disordered);
+        return Answer::Disordered;
     }
     if n == 0 {
-        return Answer::Refused(Refusal::ZeroDivisor);
+        return Answer::ZeroDivisor;
     }
     Answer::Is(Pair {
         low: p.low / n,

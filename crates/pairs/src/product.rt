@@ -2,7 +2,6 @@
 // part goes by base 10^6, so that no number has two words. An end is rounded by `extra`: 0 for down, ROUND_UP for up.
 use super::answer::Answer;
 use super::answer::Pair;
-use super::answer::Refusal;
 ghost use mathlib.Core.Path.{_≡_};
 ghost use Prim.Native.Nat.{_*_, _^_, _≤_, _<_};
 ghost use lib.Dec.{ltb};
@@ -71,10 +70,10 @@ pub fn product(p: Pair, q: Pair) -> Answer
     let c = q.low;
     let d = q.high;
     if b < a {
-        return Answer::Refused(Refusal::Disordered);
+        return Answer::Disordered;
     }
     if d < c {
-        return Answer::Refused(Refusal::Disordered);
+        return Answer::Disordered;
     }
     if product_fits(b, d) {
         return Answer::Is(Pair {
@@ -82,5 +81,5 @@ pub fn product(p: Pair, q: Pair) -> Answer
             high: rounded_product(b, d, ROUND_UP),
         });
     }
-    Answer::Refused(Refusal::TooLarge)
+    Answer::TooLarge
 }

@@ -1,7 +1,6 @@
 // The quotient of two pairs, by long division of a two-word number.
 use super::answer::Answer;
 use super::answer::Pair;
-use super::answer::Refusal;
 use super::words::Words;
 use super::words::divided;
 use super::words::in_trillionths;
@@ -39,17 +38,17 @@ pub fn quotient(p: Pair, q: Pair) -> Answer
     let c = q.low;
     let d = q.high;
     if b < a {
-        return Answer::Refused(Refusal::Disordered);
+        return Answer::Disordered;
     }
     if d < c {
-        return Answer::Refused(Refusal::Disordered);
+        return Answer::Disordered;
     }
     if c == 0 {
-        return Answer::Refused(Refusal::ZeroDivisor);
+        return Answer::ZeroDivisor;
     }
     let n = raised(b, c);
     if c <= n.high {
-        return Answer::Refused(Refusal::TooLarge);
+        return Answer::TooLarge;
     }
     Answer::Is(Pair {
         low: divided(in_trillionths(a), d),

@@ -2,7 +2,6 @@
 // radicand run until the root is reached: the answer does not depend on how good the row was.
 use super::answer::Answer;
 use super::answer::Pair;
-use super::answer::Refusal;
 use super::words::Words;
 use super::words::below;
 use super::words::divided;
@@ -903,7 +902,7 @@ pub fn root(p: Pair) -> Answer
     ensures { λ r. ⌜ figures r ≡ root-of p ⌝ }
 {
     if p.high < p.low {
-        return Answer::Refused(Refusal::Disordered);
+        return Answer::Disordered;
     }
     let a = p.low;
     let b = p.high;

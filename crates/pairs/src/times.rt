@@ -1,7 +1,6 @@
 // A pair times a whole number.
 use super::answer::Answer;
 use super::answer::Pair;
-use super::answer::Refusal;
 ghost use mathlib.Core.Path.{_≡_};
 ghost use Rattle.pairs.specs.Figures.{figures};
 ghost use Rattle.pairs.specs.Answers.{times-of};
@@ -11,13 +10,13 @@ pub fn times(p: Pair, n: u64) -> Answer
     ensures { λ r. ⌜ figures r ≡ times-of p n ⌝ }
 {
     if p.high < p.low {
-        return Answer::Refused(Refusal::Disordered);
+        return Answer::Disordered;
     }
     if n == 0 {
         return Answer::Is(Pair { low: 0, high: 0 });
     }
     if u64::MAX / n < p.high {
-        return Answer::Refused(Refusal::TooLarge);
+        return Answer::TooLarge;
     }
     Answer::Is(Pair {
         low: p.low * n,

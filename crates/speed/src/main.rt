@@ -21,13 +21,13 @@ enum Operation {
 
 // The check sum with both ends of an answer, the high end twice; 1 more for a refusal.
 fn with_answer(total: u64, a: Answer) -> u64 {
-    match a {
-        Answer::Is(p) => wrapping_add_u64(
-            wrapping_add_u64(total, p.low),
-            wrapping_add_u64(p.high, p.high),
-        ),
-        Answer::Refused(_) => wrapping_add_u64(total, 1),
-    }
+    let Answer::Is(p) = a else {
+        return wrapping_add_u64(total, 1);
+    };
+    wrapping_add_u64(
+        wrapping_add_u64(total, p.low),
+        wrapping_add_u64(p.high, p.high),
+    )
 }
 
 // A sixteenth of a pair, which lies below 256.

@@ -80,11 +80,18 @@ factor-of-requires c κs = search needs
 enum-known-p : tie.Need-enum-known-p
 enum-known-p c = search needs
 
-enum-told : tie.Need-enum-told
-enum-told c = search needs
-
 returns-4 : tie.Need-returns-4
-returns-4 c = let f = c .before .before .before in
+returns-4 c = let f = c .before in
+    let e3 = f .before .before .before in
+    let e2 = e3 .before .before in
+    let e1 = e2 .before .before in
+    let h = sym (e1 .before .outside .ensures) ∙ e1 .if1 .left in
+    let k = sym (e2 .before .outside2 .ensures) ∙ e2 .if2 .left in
+    let m = sym (e3 .before .outside3 .ensures) ∙ e3 .if3 .left in
+    absurd (never-refused (f .factor-of .result) _ (worked _ _ _ h k m _ _ _ (f .before .before .exact .ensures .0) (f .before .exact2 .ensures .0) (f .factor-of .ensures .0)) (c .match .keys2))
+
+returns-5 : tie.Need-returns-5
+returns-5 c = let f = c .before .before .before in
     let e3 = f .before .before .before in
     let e2 = e3 .before .before in
     let e1 = e2 .before .before in
@@ -93,16 +100,6 @@ returns-4 c = let f = c .before .before .before in
     let m = sym (e3 .before .outside3 .ensures) ∙ e3 .if3 .left in
     ap given (pair-given _ _ _ (worked _ _ _ h k m _ _ _ (f .before .before .exact .ensures .0) (f .before .exact2 .ensures .0) (f .factor-of .ensures .0)) (c .before .p .given .1))
     ∙ inside _ _ _ h k m
-
-returns-5 : tie.Need-returns-5
-returns-5 c = let f = c .before .before in
-    let e3 = f .before .before .before in
-    let e2 = e3 .before .before in
-    let e1 = e2 .before .before in
-    let h = sym (e1 .before .outside .ensures) ∙ e1 .if1 .left in
-    let k = sym (e2 .before .outside2 .ensures) ∙ e2 .if2 .left in
-    let m = sym (e3 .before .outside3 .ensures) ∙ e3 .if3 .left in
-    absurd (never-refused _ _ _ (worked _ _ _ h k m _ _ _ (f .before .before .exact .ensures .0) (f .before .exact2 .ensures .0) (f .factor-of .ensures .0)) (c .enum-told .given .1))
 
 pub factor-spec : {M : Type 1} → statement M
 factor-spec =
@@ -118,6 +115,5 @@ factor-spec =
     exact-requires-2
     factor-of-requires
     enum-known-p
-    enum-told
     returns-4
     returns-5)

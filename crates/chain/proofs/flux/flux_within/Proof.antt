@@ -69,6 +69,13 @@ radiant-flux-requires c κs = let h = c .before .before in
 enum-known-q : tie.Need-enum-known-q
 enum-known-q c = search needs
 
+returns-2 : tie.Need-returns-2
+returns-2 c = let f = c .before in
+    let e = f .before in
+    let s = e .before .before .before .before .before in
+    let t : Tested _ = record { limited = s .pre; flame = sym (e .before .too-low .ensures) ∙ e .if1 .left } in
+    absurd (never-refused (f .radiant-flux .result) _ (f .radiant-flux .ensures .0 ∙ accepted _ t .flux-given) (c .match .keys2))
+
 printed-requires : tie.Need-printed-requires
 printed-requires c κs = let f = c .before .before .before in
     let e = f .before in
@@ -76,22 +83,12 @@ printed-requires c κs = let f = c .before .before .before in
     let t : Tested _ = record { limited = s .pre; flame = sym (e .before .too-low .ensures) ∙ e .if1 .left } in
     small _ _ t (worked _ _ _ t (f .radiant-flux .ensures .0) (c .before .q .given .1))
 
-enum-told : tie.Need-enum-told
-enum-told c = search needs
-
-returns-2 : tie.Need-returns-2
-returns-2 c = let f = c .before .before .before .before in
+returns-3 : tie.Need-returns-3
+returns-3 c = let f = c .before .before .before .before in
     let e = f .before in
     let s = e .before .before .before .before .before in
     let t : Tested _ = record { limited = s .pre; flame = sym (e .before .too-low .ensures) ∙ e .if1 .left } in
     as-shown _ _ _ t (worked _ _ _ t (f .radiant-flux .ensures .0) (c .before .before .q .given .1)) (c .printed .ensures)
-
-returns-3 : tie.Need-returns-3
-returns-3 c = let f = c .before .before in
-    let e = f .before in
-    let s = e .before .before .before .before .before in
-    let t : Tested _ = record { limited = s .pre; flame = sym (e .before .too-low .ensures) ∙ e .if1 .left } in
-    absurd (never-refused _ _ _ (f .radiant-flux .ensures .0 ∙ accepted _ t .flux-given) (c .enum-told .given .1))
 
 pub flux-within-spec : {M : Type 1} → statement M
 flux-within-spec =
@@ -104,7 +101,6 @@ flux-within-spec =
     returns
     radiant-flux-requires
     enum-known-q
-    printed-requires
-    enum-told
     returns-2
+    printed-requires
     returns-3)

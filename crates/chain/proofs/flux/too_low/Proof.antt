@@ -31,20 +31,14 @@ compared E d h e f = quarter (h .low) (d .high) ∙ ap₂ (λ (x y : Pair). ltb 
 enum-known-diameter : tie.Need-enum-known-diameter
 enum-known-diameter c = search needs
 
-enum-told : tie.Need-enum-told
-enum-told c = search needs
-
 returns : tie.Need-returns
-returns c = absurd (never-refused _ _ _ (c .before .before .pre .0) (c .enum-told .given .1))
+returns c = absurd (never-refused (c .before .args .diameter) _ (c .before .pre .0) (c .match .keys2))
 
 enum-known-height : tie.Need-enum-known-height
 enum-known-height c = search needs
 
-enum-told-2 : tie.Need-enum-told-2
-enum-told-2 c = search needs
-
 returns-2 : tie.Need-returns-2
-returns-2 c = absurd (never-refused _ _ _ (c .before .before .before .before .before .pre .1) (c .enum-told2 .given .1))
+returns-2 c = let s = c .before .before .before .before in absurd (never-refused (s .args .height) _ (s .pre .1) (c .match2 .keys2))
 
 add-result : tie.Need-add-result
 add-result c = search needs
@@ -61,10 +55,8 @@ too-low-spec =
     tie.close
     (tie.spec
     enum-known-diameter
-    enum-told
     returns
     enum-known-height
-    enum-told-2
     returns-2
     add-result
     add-result-2

@@ -13,11 +13,8 @@ use Rattle.chain.proofs.lifted.atan_of.Tie as tie
 enum-known-a : tie.Need-enum-known-a
 enum-known-a c = search needs
 
-enum-told : tie.Need-enum-told
-enum-told c = search needs
-
 returns : tie.Need-returns
-returns c = (stays-in (series.atan answers) atan-refused _ _ (c .enum-told .given .1), c .before .before .pre)
+returns c = (stays-in (series.atan answers) atan-refused (c .before .args .a) (c .match .keys2), c .before .pre)
 
 atan-requires : tie.Need-atan-requires
 atan-requires c κs = search needs
@@ -30,4 +27,4 @@ returns-2 c = (
 
 pub atan-of-spec : {M : Type 1} → statement M
 atan-of-spec =
-    tie.close (tie.spec enum-known-a enum-told returns atan-requires returns-2)
+    tie.close (tie.spec enum-known-a returns atan-requires returns-2)

@@ -13,11 +13,8 @@ use Rattle.chain.proofs.lifted.exp_neg_of.Tie as tie
 enum-known-a : tie.Need-enum-known-a
 enum-known-a c = search needs
 
-enum-told : tie.Need-enum-told
-enum-told c = search needs
-
 returns : tie.Need-returns
-returns c = (stays-in (series.exp-neg answers) exp-refused _ _ (c .enum-told .given .1), c .before .before .pre)
+returns c = (stays-in (series.exp-neg answers) exp-refused (c .before .args .a) (c .match .keys2), c .before .pre)
 
 exp-neg-requires : tie.Need-exp-neg-requires
 exp-neg-requires c κs = search needs
@@ -30,4 +27,4 @@ returns-2 c = (
 
 pub exp-neg-of-spec : {M : Type 1} → statement M
 exp-neg-of-spec =
-    tie.close (tie.spec enum-known-a enum-told returns exp-neg-requires returns-2)
+    tie.close (tie.spec enum-known-a returns exp-neg-requires returns-2)

@@ -10,12 +10,9 @@ use Rattle.chain.proofs.lifted.fifth_root_of.Tie as tie
 enum-known-a : tie.Need-enum-known-a
 enum-known-a c = search needs
 
-enum-told : tie.Need-enum-told
-enum-told c = search needs
-
 returns : tie.Need-returns
 unfolding A.fifth-root
-returns c = (stays _ _ _ (c .enum-told .given .1), c .before .before .pre)
+returns c = (stays (c .before .args .a) _ (c .match .keys2), c .before .pre)
 
 fifth-root-requires : tie.Need-fifth-root-requires
 fifth-root-requires c κs = search needs
@@ -28,4 +25,4 @@ returns-2 c = (
 
 pub fifth-root-of-spec : {M : Type 1} → statement M
 fifth-root-of-spec =
-    tie.close (tie.spec enum-known-a enum-told returns fifth-root-requires returns-2)
+    tie.close (tie.spec enum-known-a returns fifth-root-requires returns-2)

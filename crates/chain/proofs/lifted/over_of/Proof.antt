@@ -10,12 +10,9 @@ use Rattle.chain.proofs.lifted.over_of.Tie as tie
 enum-known-a : tie.Need-enum-known-a
 enum-known-a c = search needs
 
-enum-told : tie.Need-enum-told
-enum-told c = search needs
-
 returns : tie.Need-returns
 unfolding A.over
-returns c = (stays _ _ _ (c .enum-told .given .1), c .before .before .pre)
+returns c = (stays (c .before .args .a) _ (c .match .keys2), c .before .pre)
 
 over-requires : tie.Need-over-requires
 over-requires c κs = search needs
@@ -28,4 +25,4 @@ returns-2 c = (
 
 pub over-of-spec : {M : Type 1} → statement M
 over-of-spec =
-    tie.close (tie.spec enum-known-a enum-told returns over-requires returns-2)
+    tie.close (tie.spec enum-known-a returns over-requires returns-2)

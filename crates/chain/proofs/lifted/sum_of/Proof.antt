@@ -10,23 +10,17 @@ use Rattle.chain.proofs.lifted.sum_of.Tie as tie
 enum-known-a : tie.Need-enum-known-a
 enum-known-a c = search needs
 
-enum-told : tie.Need-enum-told
-enum-told c = search needs
-
 returns : tie.Need-returns
 unfolding A.sum
-returns c = (stays _ _ _ (c .enum-told .given .1), c .before .before .pre .0)
+returns c = (stays (c .before .args .a) _ (c .match .keys2), c .before .pre .0)
 
 enum-known-b : tie.Need-enum-known-b
 enum-known-b c = search needs
 
-enum-told-2 : tie.Need-enum-told-2
-enum-told-2 c = search needs
-
 returns-2 : tie.Need-returns-2
 unfolding A.sum
-returns-2 c = let k = c .before .before .before in
-    (stays-second _ _ _ _ _ (k .a .given .1) (c .enum-told2 .given .1), k .before .before .pre .1)
+returns-2 c = let k = c .before .before in
+    (stays-second (k .before .before .args .a) (k .before .before .args .b) _ _ (k .a .given .1) (c .match2 .keys2), k .before .before .pre .1)
 
 sum-requires : tie.Need-sum-requires
 sum-requires c κs = search needs
@@ -43,10 +37,8 @@ sum-of-spec =
     tie.close
     (tie.spec
     enum-known-a
-    enum-told
     returns
     enum-known-b
-    enum-told-2
     returns-2
     sum-requires
     returns-3)

@@ -10,12 +10,9 @@ use Rattle.chain.proofs.lifted.times_of.Tie as tie
 enum-known-a : tie.Need-enum-known-a
 enum-known-a c = search needs
 
-enum-told : tie.Need-enum-told
-enum-told c = search needs
-
 returns : tie.Need-returns
 unfolding A.times
-returns c = (stays _ _ _ (c .enum-told .given .1), c .before .before .pre)
+returns c = (stays (c .before .args .a) _ (c .match .keys2), c .before .pre)
 
 times-requires : tie.Need-times-requires
 times-requires c κs = search needs
@@ -28,4 +25,4 @@ returns-2 c = (
 
 pub times-of-spec : {M : Type 1} → statement M
 times-of-spec =
-    tie.close (tie.spec enum-known-a enum-told returns times-requires returns-2)
+    tie.close (tie.spec enum-known-a returns times-requires returns-2)

@@ -2,9 +2,8 @@
 -- Assumes nothing.
 use mathlib.Core.Path.{_≡_, sym}
 use Rattle.pairs.specs.declared.answer.Pair.{Pair}
-use Rattle.pairs.specs.declared.answer.Refusal.{Refusal}
 use Rattle.pairs.specs.declared.answer.Answer.{Answer}
-use Rattle.pairs.specs.declared.answer.Answer.the-variants.{Is, Refused}
+use Rattle.pairs.specs.declared.answer.Answer.the-variants.{Is}
 use Rattle.pairs.specs.Figures.{Figures, figures}
 use Rattle.pairs.specs.Private.{in-order}
 use Rattle.pairs.specs.Answers as A
@@ -12,7 +11,7 @@ use Rattle.pairs.specs.Answers.{answers, arc-of, times-of}
 use Rattle.pairs.specs.Series.{arc}
 use Rattle.pairs.proofs.Kept.{arc-kept}
 use Rattle.pairs.proofs.Agreement.{agreement, admitted-agrees}
-use Rattle.pairs.proofs.Lifted.{answer-in-order, passed-61, stays, stays-in}
+use Rattle.pairs.proofs.Lifted.{Refused, answer-in-order, passed-61, stays, stays-in}
 use Rattle.pairs.proofs.Refusals.{arc-refused}
 use borrow.Author.Needs.{needs}
 use Rattle.pairs.proofs.atan.four_arcs.Statement.{statement}
@@ -27,22 +26,19 @@ answered :
 answered a t b p r o e f g h =
     rw (arc-is a t b o e f, passed-61 b p (answer-in-order b f (arc-kept agreement (admitted-agrees t))) g) h
 
-refused-arc : (a : Answer) (t : Pair) (b : Answer) (w : Refusal) → in-order a → a ≡ Is t → figures b ≡ arc-of t → b ≡ Refused w → figures b ≡ A.times (arc answers (figures a)) 4
+refused-arc : (a : Answer) (t : Pair) (b : Answer) → in-order a → a ≡ Is t → figures b ≡ arc-of t → Refused b → figures b ≡ A.times (arc answers (figures a)) 4
 unfolding A.times
-refused-arc a t b w o e f g = rw (arc-is a t b o e f) (stays b w _ g)
+refused-arc a t b o e f h = rw (arc-is a t b o e f) (stays b _ h)
 
-refused-before : (a : Answer) (w : Refusal) → a ≡ Refused w → figures a ≡ A.times (arc answers (figures a)) 4
+refused-before : (a : Answer) → Refused a → figures a ≡ A.times (arc answers (figures a)) 4
 unfolding A.times
-refused-before a w e = rw (sym (stays-in (arc answers) arc-refused a w e)) (stays a w _ e)
+refused-before a h = rw (sym (stays-in (arc answers) arc-refused a h)) (stays a _ h)
 
 enum-known-a : tie.Need-enum-known-a
 enum-known-a c = search needs
 
-enum-told : tie.Need-enum-told
-enum-told c = search needs
-
 returns : tie.Need-returns
-returns c = refused-before _ _ (c .enum-told .given .1)
+returns c = refused-before (c .before .args .a) (c .match .keys2)
 
 arc-requires : tie.Need-arc-requires
 arc-requires c κs = search needs
@@ -50,12 +46,9 @@ arc-requires c κs = search needs
 enum-known-angle : tie.Need-enum-known-angle
 enum-known-angle c = search needs
 
-enum-told-2 : tie.Need-enum-told-2
-enum-told-2 c = search needs
-
 returns-2 : tie.Need-returns-2
-returns-2 c = let d = c .before .before .before .before in
-    refused-arc _ _ _ _ (d .before .before .pre) (d .a .given .1) (c .before .before .arc .ensures) (c .enum-told2 .given .1)
+returns-2 c = let d = c .before .before .before in
+    refused-arc _ _ (c .before .arc .result) (d .before .before .pre) (d .a .given .1) (c .before .arc .ensures) (c .match2 .keys2)
 
 times-requires : tie.Need-times-requires
 times-requires c κs = search needs
@@ -69,11 +62,9 @@ four-arcs-spec =
     tie.close
     (tie.spec
     enum-known-a
-    enum-told
     returns
     arc-requires
     enum-known-angle
-    enum-told-2
     returns-2
     times-requires
     returns-3)

@@ -31,12 +31,9 @@ steps a t s p r q o e f g h k =
 enum-known-a : tie.Need-enum-known-a
 enum-known-a c = search needs
 
-enum-told : tie.Need-enum-told
-enum-told c = search needs
-
 returns : tie.Need-returns
 unfolding half-angle A.quotient
-returns c = (stays _ _ _ (c .enum-told .given .1), c .before .before .pre)
+returns c = (stays (c .before .args .a) _ (c .match .keys2), c .before .pre)
 
 product-requires : tie.Need-product-requires
 product-requires c κs = search needs
@@ -67,7 +64,6 @@ half-angle-spec =
     tie.close
     (tie.spec
     enum-known-a
-    enum-told
     returns
     product-requires
     one-more-requires

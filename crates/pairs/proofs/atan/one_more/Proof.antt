@@ -19,12 +19,9 @@ one-admitted = refl
 enum-known-a : tie.Need-enum-known-a
 enum-known-a c = search needs
 
-enum-told : tie.Need-enum-told
-enum-told c = search needs
-
 returns : tie.Need-returns
 unfolding A.constant A.fitting R.constant A.sum
-returns c = (stays _ _ _ (c .enum-told .given .1), c .before .before .pre)
+returns c = (stays (c .before .args .a) _ (c .match .keys2), c .before .pre)
 
 sum-requires : tie.Need-sum-requires
 sum-requires c κs = search needs
@@ -36,4 +33,4 @@ returns-2 c = (
 )
 
 pub one-more-spec : {M : Type 1} → statement M
-one-more-spec = tie.close (tie.spec enum-known-a enum-told returns sum-requires returns-2)
+one-more-spec = tie.close (tie.spec enum-known-a returns sum-requires returns-2)

@@ -12,12 +12,9 @@ use Rattle.pairs.proofs.atan.over_answer.Tie as tie
 enum-known-a : tie.Need-enum-known-a
 enum-known-a c = search needs
 
-enum-told : tie.Need-enum-told
-enum-told c = search needs
-
 returns : tie.Need-returns
 unfolding A.quotient
-returns c = (stays _ _ _ (c .enum-told .given .1), c .before .before .pre .1)
+returns c = (stays (c .before .args .a) _ (c .match .keys2), c .before .pre .1)
 
 quotient-requires : tie.Need-quotient-requires
 quotient-requires c κs = search needs
@@ -31,4 +28,4 @@ returns-2 c = (
 
 pub over-answer-spec : {M : Type 1} → statement M
 over-answer-spec =
-    tie.close (tie.spec enum-known-a enum-told returns quotient-requires returns-2)
+    tie.close (tie.spec enum-known-a returns quotient-requires returns-2)

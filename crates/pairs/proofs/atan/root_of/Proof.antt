@@ -10,12 +10,10 @@ use Rattle.pairs.proofs.atan.root_of.Tie as tie
 enum-known-a : tie.Need-enum-known-a
 enum-known-a c = search needs
 
-enum-told : tie.Need-enum-told
-enum-told c = search needs
 
 returns : tie.Need-returns
 unfolding A.root
-returns c = (stays _ _ _ (c .enum-told .given .1), c .before .before .pre)
+returns c = (stays (c .before .args .a) _ (c .match .keys2), c .before .pre)
 
 root-requires : tie.Need-root-requires
 root-requires c κs = search needs
@@ -27,4 +25,4 @@ returns-2 c = (
 )
 
 pub root-of-spec : {M : Type 1} → statement M
-root-of-spec = tie.close (tie.spec enum-known-a enum-told returns root-requires returns-2)
+root-of-spec = tie.close (tie.spec enum-known-a returns root-requires returns-2)

@@ -10,12 +10,9 @@ use Rattle.pairs.proofs.exp_neg.square.Tie as tie
 enum-known-a : tie.Need-enum-known-a
 enum-known-a c = search needs
 
-enum-told : tie.Need-enum-told
-enum-told c = search needs
-
 returns : tie.Need-returns
 unfolding A.product
-returns c = (stays _ _ _ (c .enum-told .given .1), c .before .before .pre)
+returns c = (stays (c .before .args .a) _ (c .match .keys2), c .before .pre)
 
 product-requires : tie.Need-product-requires
 product-requires c κs = search needs
@@ -27,4 +24,4 @@ returns-2 c = (
 )
 
 pub square-spec : {M : Type 1} → statement M
-square-spec = tie.close (tie.spec enum-known-a enum-told returns product-requires returns-2)
+square-spec = tie.close (tie.spec enum-known-a returns product-requires returns-2)

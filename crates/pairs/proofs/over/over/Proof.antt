@@ -30,8 +30,8 @@ returns-2 : tie.Need-returns-2
 unfolding rounded.over rounded.down rounded.up
 returns-2 c = zero-divisor _ _ (omega arith) (omega arith)
 
-div-t6 : tie.Need-div-t6
-div-t6 c = search needs
+div-t4 : tie.Need-div-t4
+div-t4 c = search needs
 
 divided-up-requires : tie.Need-divided-up-requires
 divided-up-requires c κs = search needs
@@ -41,4 +41,4 @@ unfolding rounded.over rounded.down rounded.up
 returns-3 c = divided _ _ _ (omega arith) (omega arith) (omega arith) (c .divided-up .ensures)
 
 pub over-spec : {M : Type 1} → statement M
-over-spec = tie.close (tie.spec returns returns-2 div-t6 divided-up-requires returns-3)
+over-spec = tie.close (tie.spec returns returns-2 div-t4 divided-up-requires returns-3)

@@ -23,15 +23,15 @@ returns-3 : tie.Need-returns-3
 unfolding rounded.sum
 returns-3 c = sum-turned _ _ .is-64 (omega arith) (omega arith) refl (omega arith)
 
-add-t6 : tie.Need-add-t6
-add-t6 c = search needs
+add-t4 : tie.Need-add-t4
+add-t4 c = search needs
 
-add-t8 : tie.Need-add-t8
-add-t8 c = search needs
+add-t5 : tie.Need-add-t5
+add-t5 c = search needs
 
 returns-4 : tie.Need-returns-4
 unfolding rounded.sum
 returns-4 c = sum-turned _ _ .is (omega arith) (omega arith) refl (omega arith)
 
 pub sum-spec : {M : Type 1} → statement M
-sum-spec = tie.close (tie.spec returns returns-2 sub-if3 returns-3 add-t6 add-t8 returns-4)
+sum-spec = tie.close (tie.spec returns returns-2 sub-if3 returns-3 add-t4 add-t5 returns-4)

@@ -42,17 +42,17 @@ returns-3 : tie.Need-returns-3
 unfolding rounded.times
 returns-3 c = times-turned _ _ .is-64 (omega arith) refl (over-most _ _ (omega arith) (omega arith))
 
+mul-t5 : tie.Need-mul-t5
+unfolding rounded.times
+mul-t5 c = record { fits = under-most _ _ (omega arith) (omega arith) }
+
 mul-t6 : tie.Need-mul-t6
 unfolding rounded.times
 mul-t6 c = record { fits = under-most _ _ (omega arith) (omega arith) }
-
-mul-t8 : tie.Need-mul-t8
-unfolding rounded.times
-mul-t8 c = record { fits = under-most _ _ (omega arith) (omega arith) }
 
 returns-4 : tie.Need-returns-4
 unfolding rounded.times
 returns-4 c = times-turned _ _ .is (omega arith) refl (under-most _ _ (omega arith) (omega arith))
 
 pub times-spec : {M : Type 1} → statement M
-times-spec = tie.close (tie.spec returns returns-2 div-if3 returns-3 mul-t6 mul-t8 returns-4)
+times-spec = tie.close (tie.spec returns returns-2 div-if3 returns-3 mul-t5 mul-t6 returns-4)
