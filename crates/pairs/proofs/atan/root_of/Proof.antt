@@ -10,7 +10,6 @@ use Rattle.pairs.proofs.atan.root_of.Tie as tie
 enum-known-a : tie.Need-enum-known-a
 enum-known-a c = search needs
 
-
 returns : tie.Need-returns
 unfolding A.root
 returns c = (stays (c .before .args .a) _ (c .match .keys2), c .before .pre)
