@@ -8,7 +8,6 @@ use Rattle.pairs.specs.declared.answer.Answer.{Answer}
 use Rattle.pairs.specs.Rounded.{U, down, up}
 use Rattle.pairs.specs.Figures.{figures}
 use Rattle.pairs.specs.Answers.{answers}
-use Rattle.pairs.specs.Private.{Gives}
 use Rattle.chain.specs.declared.enquiry.Enquiry.{Enquiry}
 use Rattle.chain.specs.declared.enquiry.Printed.{Printed}
 use Rattle.chain.specs.declared.factor.Shared.{Shared}
@@ -29,8 +28,8 @@ pub record Prints (q : Pair) (method : ℕ) (p : Printed) : Type 0 where
   pub high : p .high ≡ up (1000 * q .high) U
   pub note : p .note ≡ (elim (eqb method 1 && leb (down (1000 * q .low) U) 5000) [ true ↦ 1 | false ↦ 0 ])
 
--- What both faces share of l and e: r, u·v and A, each in order.
+-- What both faces share of l and e: r, u·v and A.
 pub record SharedOf (l e : Answer) (s : Shared) : Type 0 where
-  pub r : Gives (s .r) (chain.r answers (figures e))
-  pub product : Gives (s .product) (answers .product (chain.u answers (figures l) (figures e)) (chain.v answers (figures l) (figures e)))
-  pub tilt : Gives (s .tilt) (chain.tilt answers (figures l) (figures e))
+  pub r : figures (s .r) ≡ chain.r answers (figures e)
+  pub product : figures (s .product) ≡ answers .product (chain.u answers (figures l) (figures e)) (chain.v answers (figures l) (figures e))
+  pub tilt : figures (s .tilt) ≡ chain.tilt answers (figures l) (figures e)

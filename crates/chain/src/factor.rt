@@ -17,37 +17,32 @@ ghost use Rattle.pairs.specs.Figures.{figures};
 ghost use Rattle.pairs.specs.Answers.{answers};
 ghost use Rattle.chain.specs.Chain as chain;
 ghost use Rattle.chain.specs.Factor as alone;
-ghost use Rattle.pairs.specs.Private.{in-order, Gives};
 ghost use Rattle.chain.specs.Private.{SharedOf};
 
 // x = 1+e.
 fn x_of(e: Answer) -> Answer
-    requires { ⌜ in-order e ⌝ }
-    ensures { λ r. ⌜ Gives r (chain.x answers (figures e)) ⌝ }
+    ensures { λ r. ⌜ figures r ≡ chain.x answers (figures e) ⌝ }
 {
     sum_of(exact(1_000_000_000_000), e)
 }
 
 // g = e+2.
 fn g_of(e: Answer) -> Answer
-    requires { ⌜ in-order e ⌝ }
-    ensures { λ r. ⌜ Gives r (chain.g answers (figures e)) ⌝ }
+    ensures { λ r. ⌜ figures r ≡ chain.g answers (figures e) ⌝ }
 {
     sum_of(e, exact(2_000_000_000_000))
 }
 
 // r = root(e/g).
 fn r_of(e: Answer) -> Answer
-    requires { ⌜ in-order e ⌝ }
-    ensures { λ r. ⌜ Gives r (chain.r answers (figures e)) ⌝ }
+    ensures { λ r. ⌜ figures r ≡ chain.r answers (figures e) ⌝ }
 {
     root_of(quotient_of(e, g_of(e)))
 }
 
 // u = root(l·l+g·g).
 fn u_of(l: Answer, e: Answer) -> Answer
-    requires { ⌜ in-order l × in-order e ⌝ }
-    ensures { λ r. ⌜ Gives r (chain.u answers (figures l) (figures e)) ⌝ }
+    ensures { λ r. ⌜ figures r ≡ chain.u answers (figures l) (figures e) ⌝ }
 {
     let g = g_of(e);
     root_of(sum_of(product_of(l, l), product_of(g, g)))
@@ -55,8 +50,7 @@ fn u_of(l: Answer, e: Answer) -> Answer
 
 // v = root(l·l+e·e).
 fn v_of(l: Answer, e: Answer) -> Answer
-    requires { ⌜ in-order l × in-order e ⌝ }
-    ensures { λ r. ⌜ Gives r (chain.v answers (figures l) (figures e)) ⌝ }
+    ensures { λ r. ⌜ figures r ≡ chain.v answers (figures l) (figures e) ⌝ }
 {
     root_of(sum_of(product_of(l, l), product_of(e, e)))
 }
@@ -69,7 +63,6 @@ struct Shared {
 }
 
 fn shared_by_faces(l: Answer, e: Answer) -> Shared
-    requires { ⌜ in-order l × in-order e ⌝ }
     ensures { λ r. ⌜ SharedOf l e r ⌝ }
 {
     let r = r_of(e);
@@ -82,8 +75,7 @@ fn shared_by_faces(l: Answer, e: Answer) -> Shared
 
 // atan(l/root(e·g))/x.
 fn height_angle(l: Answer, e: Answer) -> Answer
-    requires { ⌜ in-order l × in-order e ⌝ }
-    ensures { λ r. ⌜ Gives r (chain.height-angle answers (figures l) (figures e)) ⌝ }
+    ensures { λ r. ⌜ figures r ≡ chain.height-angle answers (figures l) (figures e) ⌝ }
 {
     quotient_of(
         atan_of(quotient_of(l, root_of(product_of(e, g_of(e))))),
@@ -93,9 +85,8 @@ fn height_angle(l: Answer, e: Answer) -> Answer
 
 // (l·l+x·x+1)/(u·v).
 fn vertical_ratio(l: Answer, e: Answer, both: Shared) -> Answer
-    requires { ⌜ in-order l × in-order e ⌝ }
     requires { ⌜ SharedOf l e both ⌝ }
-    ensures { λ r. ⌜ Gives r (chain.vertical-ratio answers (figures l) (figures e)) ⌝ }
+    ensures { λ r. ⌜ figures r ≡ chain.vertical-ratio answers (figures l) (figures e) ⌝ }
 {
     let product = both.product;
     let x = x_of(e);
@@ -110,9 +101,8 @@ fn vertical_ratio(l: Answer, e: Answer, both: Shared) -> Answer
 
 // The vertical face (B.2).
 fn vertical(l: Answer, e: Answer, both: Shared) -> Answer
-    requires { ⌜ in-order l × in-order e ⌝ }
     requires { ⌜ SharedOf l e both ⌝ }
-    ensures { λ r. ⌜ Gives r (chain.vertical answers (figures l) (figures e)) ⌝ }
+    ensures { λ r. ⌜ figures r ≡ chain.vertical answers (figures l) (figures e) ⌝ }
 {
     let r = both.r;
     let tilt = both.tilt;
@@ -129,9 +119,8 @@ fn vertical(l: Answer, e: Answer, both: Shared) -> Answer
 
 // The horizontal face, looking up (B.4).
 fn horizontal(l: Answer, e: Answer, both: Shared) -> Answer
-    requires { ⌜ in-order l × in-order e ⌝ }
     requires { ⌜ SharedOf l e both ⌝ }
-    ensures { λ r. ⌜ Gives r (chain.horizontal answers (figures l) (figures e)) ⌝ }
+    ensures { λ r. ⌜ figures r ≡ chain.horizontal answers (figures l) (figures e) ⌝ }
 {
     let product = both.product;
     let tilt = both.tilt;
@@ -145,8 +134,7 @@ fn horizontal(l: Answer, e: Answer, both: Shared) -> Answer
 
 // The factor of a face.
 pub(crate) fn factor_of(face: u8, l: Answer, e: Answer) -> Answer
-    requires { ⌜ in-order l × in-order e ⌝ }
-    ensures { λ r. ⌜ Gives r (chain.factor answers face (figures l) (figures e)) ⌝ }
+    ensures { λ r. ⌜ figures r ≡ chain.factor answers face (figures l) (figures e) ⌝ }
 {
     let both = shared_by_faces(l, e);
     if face == 1 {

@@ -24,7 +24,6 @@ ghost use Rattle.pairs.specs.Answers.{answers};
 ghost use Rattle.chain.specs.Chain as chain;
 ghost use Rattle.chain.specs.Flux.{flame-too-low, flux-of, shown};
 ghost use Rattle.chain.specs.Private.{Limited, Prints};
-ghost use Rattle.pairs.specs.Private.{Gives};
 
 // Whether 4·L.low is under D.high.
 fn too_low(e: Enquiry, diameter: Answer, height: Answer) -> bool
@@ -44,11 +43,11 @@ fn too_low(e: Enquiry, diameter: Answer, height: Answer) -> bool
 
 // 8. q = E·F.
 fn radiant_flux(e: Enquiry, diameter: Answer, heat: Answer, height: Answer) -> Answer
-    requires { ⌜ Gives diameter (chain.diameter answers e) ⌝ }
-    requires { ⌜ Gives heat (chain.heat-release answers e) ⌝ }
-    requires { ⌜ Gives height (chain.flame-height answers e) ⌝ }
+    requires { ⌜ figures diameter ≡ chain.diameter answers e ⌝ }
+    requires { ⌜ figures heat ≡ chain.heat-release answers e ⌝ }
+    requires { ⌜ figures height ≡ chain.flame-height answers e ⌝ }
     requires { ⌜ e .distance ≤ 200_000 ⌝ }
-    ensures { λ r. ⌜ Gives r (chain.radiant-flux answers e) ⌝ }
+    ensures { λ r. ⌜ figures r ≡ chain.radiant-flux answers e ⌝ }
 {
     let face = e.face;
     let millimetres = e.distance as u64;

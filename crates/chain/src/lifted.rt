@@ -19,11 +19,9 @@ ghost use Rattle.pairs.specs.Rounded.{ends};
 ghost use Rattle.pairs.specs.Figures.{figures, given};
 ghost use Rattle.pairs.specs.Answers.{answers};
 ghost use Rattle.pairs.specs.Series as series;
-ghost use Rattle.pairs.specs.Private.{in-order, Gives};
 
 pub(crate) fn sum_of(a: Answer, b: Answer) -> Answer
-    requires { ⌜ in-order a × in-order b ⌝ }
-    ensures { λ r. ⌜ Gives r (answers .sum (figures a) (figures b)) ⌝ }
+    ensures { λ r. ⌜ figures r ≡ answers .sum (figures a) (figures b) ⌝ }
 {
     let Answer::Is(p) = a else {
         return a;
@@ -35,8 +33,7 @@ pub(crate) fn sum_of(a: Answer, b: Answer) -> Answer
 }
 
 pub(crate) fn difference_of(a: Answer, b: Answer) -> Answer
-    requires { ⌜ in-order a × in-order b ⌝ }
-    ensures { λ r. ⌜ Gives r (answers .difference (figures a) (figures b)) ⌝ }
+    ensures { λ r. ⌜ figures r ≡ answers .difference (figures a) (figures b) ⌝ }
 {
     let Answer::Is(p) = a else {
         return a;
@@ -48,8 +45,7 @@ pub(crate) fn difference_of(a: Answer, b: Answer) -> Answer
 }
 
 pub(crate) fn product_of(a: Answer, b: Answer) -> Answer
-    requires { ⌜ in-order a × in-order b ⌝ }
-    ensures { λ r. ⌜ Gives r (answers .product (figures a) (figures b)) ⌝ }
+    ensures { λ r. ⌜ figures r ≡ answers .product (figures a) (figures b) ⌝ }
 {
     let Answer::Is(p) = a else {
         return a;
@@ -61,8 +57,7 @@ pub(crate) fn product_of(a: Answer, b: Answer) -> Answer
 }
 
 pub(crate) fn quotient_of(a: Answer, b: Answer) -> Answer
-    requires { ⌜ in-order a × in-order b ⌝ }
-    ensures { λ r. ⌜ Gives r (answers .quotient (figures a) (figures b)) ⌝ }
+    ensures { λ r. ⌜ figures r ≡ answers .quotient (figures a) (figures b) ⌝ }
 {
     let Answer::Is(p) = a else {
         return a;
@@ -74,8 +69,7 @@ pub(crate) fn quotient_of(a: Answer, b: Answer) -> Answer
 }
 
 pub(crate) fn times_of(a: Answer, n: u64) -> Answer
-    requires { ⌜ in-order a ⌝ }
-    ensures { λ r. ⌜ Gives r (answers .times (figures a) n) ⌝ }
+    ensures { λ r. ⌜ figures r ≡ answers .times (figures a) n ⌝ }
 {
     let Answer::Is(p) = a else {
         return a;
@@ -84,8 +78,7 @@ pub(crate) fn times_of(a: Answer, n: u64) -> Answer
 }
 
 pub(crate) fn over_of(a: Answer, n: u64) -> Answer
-    requires { ⌜ in-order a ⌝ }
-    ensures { λ r. ⌜ Gives r (answers .over (figures a) n) ⌝ }
+    ensures { λ r. ⌜ figures r ≡ answers .over (figures a) n ⌝ }
 {
     let Answer::Is(p) = a else {
         return a;
@@ -94,8 +87,7 @@ pub(crate) fn over_of(a: Answer, n: u64) -> Answer
 }
 
 pub(crate) fn root_of(a: Answer) -> Answer
-    requires { ⌜ in-order a ⌝ }
-    ensures { λ r. ⌜ Gives r (answers .root (figures a)) ⌝ }
+    ensures { λ r. ⌜ figures r ≡ answers .root (figures a) ⌝ }
 {
     let Answer::Is(p) = a else {
         return a;
@@ -104,8 +96,7 @@ pub(crate) fn root_of(a: Answer) -> Answer
 }
 
 pub(crate) fn fifth_root_of(a: Answer) -> Answer
-    requires { ⌜ in-order a ⌝ }
-    ensures { λ r. ⌜ Gives r (answers .fifth-root (figures a)) ⌝ }
+    ensures { λ r. ⌜ figures r ≡ answers .fifth-root (figures a) ⌝ }
 {
     let Answer::Is(p) = a else {
         return a;
@@ -114,8 +105,7 @@ pub(crate) fn fifth_root_of(a: Answer) -> Answer
 }
 
 pub(crate) fn atan_of(a: Answer) -> Answer
-    requires { ⌜ in-order a ⌝ }
-    ensures { λ r. ⌜ Gives r (series.atan answers (figures a)) ⌝ }
+    ensures { λ r. ⌜ figures r ≡ series.atan answers (figures a) ⌝ }
 {
     let Answer::Is(p) = a else {
         return a;
@@ -124,8 +114,7 @@ pub(crate) fn atan_of(a: Answer) -> Answer
 }
 
 pub(crate) fn exp_neg_of(a: Answer) -> Answer
-    requires { ⌜ in-order a ⌝ }
-    ensures { λ r. ⌜ Gives r (series.exp-neg answers (figures a)) ⌝ }
+    ensures { λ r. ⌜ figures r ≡ series.exp-neg answers (figures a) ⌝ }
 {
     let Answer::Is(p) = a else {
         return a;
@@ -140,8 +129,7 @@ fn larger(a: u64, b: u64) -> u64
 }
 
 pub(crate) fn larger_of(a: Answer, b: Answer) -> Answer
-    requires { ⌜ in-order a × in-order b ⌝ }
-    ensures { λ r. ⌜ Gives r (answers .larger (figures a) (figures b)) ⌝ }
+    ensures { λ r. ⌜ figures r ≡ answers .larger (figures a) (figures b) ⌝ }
 {
     let Answer::Is(p) = a else {
         return a;
@@ -157,19 +145,19 @@ pub(crate) fn larger_of(a: Answer, b: Answer) -> Answer
 
 // An exact pair.
 pub(crate) fn exact(n: u64) -> Answer
-    ensures { λ r. ⌜ Gives r (given (ends n n)) ⌝ }
+    ensures { λ r. ⌜ figures r ≡ given (ends n n) ⌝ }
 {
     Answer::Is(Pair { low: n, high: n })
 }
 
 pub(crate) fn pi_answer() -> Answer
-    ensures { λ r. ⌜ Gives r (series.pi answers) ⌝ }
+    ensures { λ r. ⌜ figures r ≡ series.pi answers ⌝ }
 {
     Answer::Is(pi())
 }
 
 pub(crate) fn ln_ten_answer() -> Answer
-    ensures { λ r. ⌜ Gives r (series.ln-ten answers) ⌝ }
+    ensures { λ r. ⌜ figures r ≡ series.ln-ten answers ⌝ }
 {
     Answer::Is(ln_ten())
 }

@@ -13,15 +13,16 @@ use super::lifted::root_of;
 use super::lifted::sum_of;
 use super::lifted::times_of;
 use pairs::answer::Answer;
+ghost use mathlib.Core.Path.{_≡_};
 ghost use Prim.Native.Nat.{_≤_};
+ghost use Rattle.pairs.specs.Figures.{figures};
 ghost use Rattle.pairs.specs.Answers.{answers};
 ghost use Rattle.chain.specs.Chain as chain;
-ghost use Rattle.pairs.specs.Private.{Gives};
 
 // 1. D = root((4a/100)/pi).
 pub(crate) fn diameter(e: Enquiry) -> Answer
     requires { ⌜ e .area ≤ 190_000 ⌝ }
-    ensures { λ r. ⌜ Gives r (chain.diameter answers e) ⌝ }
+    ensures { λ r. ⌜ figures r ≡ chain.diameter answers e ⌝ }
 {
     let a = e.area as u64;
     root_of(quotient_of(exact(a * 40_000_000_000), pi_answer()))
@@ -29,8 +30,8 @@ pub(crate) fn diameter(e: Enquiry) -> Answer
 
 // 2. X = exp(-(k·D over 100)).
 fn unabsorbed(e: Enquiry, diameter: Answer) -> Answer
-    requires { ⌜ Gives diameter (chain.diameter answers e) ⌝ }
-    ensures { λ r. ⌜ Gives r (chain.unabsorbed answers e) ⌝ }
+    requires { ⌜ figures diameter ≡ chain.diameter answers e ⌝ }
+    ensures { λ r. ⌜ figures r ≡ chain.unabsorbed answers e ⌝ }
 {
     let k = e.absorption as u64;
     exp_neg_of(over_of(times_of(diameter, k), 100))
@@ -39,8 +40,8 @@ fn unabsorbed(e: Enquiry, diameter: Answer) -> Answer
 // 3. Q = (m·c·a/1000)·(1-X).
 pub(crate) fn heat_release(e: Enquiry, diameter: Answer) -> Answer
     requires { ⌜ (e .rate ≤ 150) × (e .heat ≤ 500) × (e .area ≤ 190_000) ⌝ }
-    requires { ⌜ Gives diameter (chain.diameter answers e) ⌝ }
-    ensures { λ r. ⌜ Gives r (chain.heat-release answers e) ⌝ }
+    requires { ⌜ figures diameter ≡ chain.diameter answers e ⌝ }
+    ensures { λ r. ⌜ figures r ≡ chain.heat-release answers e ⌝ }
 {
     let m = e.rate as u64;
     let c = e.heat as u64;
@@ -53,9 +54,9 @@ pub(crate) fn heat_release(e: Enquiry, diameter: Answer) -> Answer
 
 // 4. s = fifth root of Q; L = 0.235·(s·s) - 1.02·D.
 pub(crate) fn flame_height(e: Enquiry, diameter: Answer, heat: Answer) -> Answer
-    requires { ⌜ Gives diameter (chain.diameter answers e) ⌝ }
-    requires { ⌜ Gives heat (chain.heat-release answers e) ⌝ }
-    ensures { λ r. ⌜ Gives r (chain.flame-height answers e) ⌝ }
+    requires { ⌜ figures diameter ≡ chain.diameter answers e ⌝ }
+    requires { ⌜ figures heat ≡ chain.heat-release answers e ⌝ }
+    ensures { λ r. ⌜ figures r ≡ chain.flame-height answers e ⌝ }
 {
     let s = fifth_root_of(heat);
     difference_of(
@@ -66,8 +67,8 @@ pub(crate) fn flame_height(e: Enquiry, diameter: Answer, heat: Answer) -> Answer
 
 // 5. Method 1: E = 58 times exp(-((0.00823·D)·ln 10)).
 fn emissive_power_1(e: Enquiry, diameter: Answer) -> Answer
-    requires { ⌜ Gives diameter (chain.diameter answers e) ⌝ }
-    ensures { λ r. ⌜ Gives r (chain.emissive-power-1 answers e) ⌝ }
+    requires { ⌜ figures diameter ≡ chain.diameter answers e ⌝ }
+    ensures { λ r. ⌜ figures r ≡ chain.emissive-power-1 answers e ⌝ }
 {
     times_of(
         exp_neg_of(product_of(product_of(exact(8_230_000_000), diameter), ln_ten_answer())),
@@ -77,9 +78,9 @@ fn emissive_power_1(e: Enquiry, diameter: Answer) -> Answer
 
 // pi·D·L + (pi·(D·D) over 4).
 fn flame_surface(e: Enquiry, diameter: Answer, height: Answer) -> Answer
-    requires { ⌜ Gives diameter (chain.diameter answers e) ⌝ }
-    requires { ⌜ Gives height (chain.flame-height answers e) ⌝ }
-    ensures { λ r. ⌜ Gives r (chain.flame-surface answers e) ⌝ }
+    requires { ⌜ figures diameter ≡ chain.diameter answers e ⌝ }
+    requires { ⌜ figures height ≡ chain.flame-height answers e ⌝ }
+    ensures { λ r. ⌜ figures r ≡ chain.flame-surface answers e ⌝ }
 {
     let pi = pi_answer();
     sum_of(
@@ -90,10 +91,10 @@ fn flame_surface(e: Enquiry, diameter: Answer, height: Answer) -> Answer
 
 // Method 2: f = 0.21 - 0.0034·D; E = (f·Q)/(pi·D·L + (pi·(D·D) over 4)).
 fn emissive_power_2(e: Enquiry, diameter: Answer, heat: Answer, height: Answer) -> Answer
-    requires { ⌜ Gives diameter (chain.diameter answers e) ⌝ }
-    requires { ⌜ Gives heat (chain.heat-release answers e) ⌝ }
-    requires { ⌜ Gives height (chain.flame-height answers e) ⌝ }
-    ensures { λ r. ⌜ Gives r (chain.emissive-power-2 answers e) ⌝ }
+    requires { ⌜ figures diameter ≡ chain.diameter answers e ⌝ }
+    requires { ⌜ figures heat ≡ chain.heat-release answers e ⌝ }
+    requires { ⌜ figures height ≡ chain.flame-height answers e ⌝ }
+    ensures { λ r. ⌜ figures r ≡ chain.emissive-power-2 answers e ⌝ }
 {
     let fraction = difference_of(
         exact(210_000_000_000),
@@ -107,10 +108,10 @@ fn emissive_power_2(e: Enquiry, diameter: Answer, heat: Answer, height: Answer) 
 
 // The emissive power by the enquiry's method.
 pub(crate) fn emissive_power(e: Enquiry, diameter: Answer, heat: Answer, height: Answer) -> Answer
-    requires { ⌜ Gives diameter (chain.diameter answers e) ⌝ }
-    requires { ⌜ Gives heat (chain.heat-release answers e) ⌝ }
-    requires { ⌜ Gives height (chain.flame-height answers e) ⌝ }
-    ensures { λ r. ⌜ Gives r (chain.emissive-power answers e) ⌝ }
+    requires { ⌜ figures diameter ≡ chain.diameter answers e ⌝ }
+    requires { ⌜ figures heat ≡ chain.heat-release answers e ⌝ }
+    requires { ⌜ figures height ≡ chain.flame-height answers e ⌝ }
+    ensures { λ r. ⌜ figures r ≡ chain.emissive-power answers e ⌝ }
 {
     let method = e.method;
     if method == 1 {

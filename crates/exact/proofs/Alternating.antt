@@ -71,8 +71,10 @@ module _ (n : ℕ) (f : ℕ → Figures) (x : ℕ → Bracket) (meets : (j : ℕ
   first-passing :
       (k : ℕ) →
       Passing (λ r. Overlap r (plus-and-next n x k)) (answers.sum (plus-terms answers f k) (answers.high-only (f (2 * k))))
-  unfolding answers.sum
-  first-passing k = after-two _ _ (λ u v. sum-overlap (plus-meets k .overlap u) (high-only-passing (meets (2 * k)) v))
+  unfolding answers.sum answers.sum-of
+  first-passing k =
+      after-two (plus-terms answers f k) (answers.high-only (f (2 * k)))
+      (λ u v. sum-overlap (plus-meets k .overlap u) (high-only-passing (meets (2 * k)) v))
 
   sound : Sound (alternating (exact n) x)
   unfolding alternating
@@ -122,12 +124,12 @@ Falling f x = (f 1) .number ≡ 0 → (j : ℕ) → x (suc j) .low ⊑ x j .high
 meets-at :
     (r : ℕ) (f : ℕ → Figures) (x : ℕ → Bracket) → ((j : ℕ) → Meets (f j) (x j)) → Falling f x →
     Meets (alternating answers f) (alternating (exact (8 + r)) x)
-unfolding alternating answers.difference
+unfolding alternating answers.difference answers.difference-of
 meets-at r f x meets falling =
     record {
       sound = sound (8 + r) f x meets;
       overlap =
-          after-two _ _
+          after-two (answers.sum (plus-terms answers f 8) (answers.high-only (f 16))) (minus-terms answers f 8)
           (λ u v.
           let falls = falling (second-passes f 7 v) in
           difference-overlap-wider (above 8 r x falls) (below 8 r x falls) (first-passing (8 + r) f x meets 8 u)

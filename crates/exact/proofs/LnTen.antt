@@ -75,8 +75,10 @@ module _ (n : ℕ) {a : Figures} {x : Bracket} (h : Meets a x) where
       (k : ℕ) →
       Passing (λ r. Overlap r (terms-and-low n x k))
       (answer.sum (total answers (arc-term answers a) k) (answer.high-only (power answers a k)))
-  unfolding answer.sum
-  first-passing k = after-two _ _ (λ u v. sum-overlap (total-meets k .overlap u) (high-only-passing (power-meets n h k) v))
+  unfolding answer.sum answer.sum-of
+  first-passing k =
+      after-two (total answers (arc-term answers a) k) (answer.high-only (power answers a k))
+      (λ u v. sum-overlap (total-meets k .overlap u) (high-only-passing (power-meets n h k) v))
 
   wider : (m : ℕ) → 16 ≤ m → x .low ⊑ half → {p : Pair} → Overlap p (terms-and-low n x 16) → Overlap p (terms-and-high n x m)
   unfolding depth.sum depth.high-only low-only

@@ -9,7 +9,7 @@ use lib.Dec.{T, leb, ltb, le→leb, lt→ltb}
 use Rattle.pairs.specs.declared.answer.Pair.{Pair}
 use Rattle.pairs.specs.Figures.{Figures, refused, refuse, after}
 use Rattle.pairs.specs.Answers as answers
-use Rattle.pairs.specs.Answers.{fitting}
+use Rattle.pairs.specs.Answers.{admit, fitting}
 use Rattle.pairs.proofs.Agreement.{after-passed, refuse-passed, fitting-passed}
 
 abbrev pub Passing : (Pair → Type 0) → Figures → Type 0
@@ -20,6 +20,9 @@ after-passing P a f h z = let w = after-passed a f z in rw (w .same) (h (w .firs
 
 pub refuse-passing : (P : Pair → Type 0) (b : Bool) (n : ℕ) (f : Figures) → ((T b → ⊥) → Passing P f) → Passing P (refuse b (refused (suc n)) f)
 refuse-passing P b n f h z = let w = refuse-passed b n f z in rw (w .1) (h (w .0) (rw (w .1) at z))
+
+pub admit-passing : (P : Pair → Type 0) (p : Pair) (f : Figures) → Passing P f → Passing P (admit p f)
+admit-passing P p f h = refuse-passing P (ltb (p .high) (p .low)) 60 f (λ _. h)
 
 pub fitting-passing : (P : Pair → Type 0) (p : Pair) → P p → Passing P (fitting p)
 fitting-passing P p h z = rw (fitting-passed p z) h

@@ -5,13 +5,13 @@ use mathlib.Core.Bool.{Bool, true, false}
 use Prim.Native.Nat.{ℕ, zero, suc, _*_, _^_, _<_}
 use native.Mathlib.Nat.{not-le-of-lt, zero-lt-suc}
 use native.Mathlib.Omega.{arith}
-use lib.Dec.{T, leb, ltb, eqb, leb→le, not-T, nltb→le}
+use lib.Dec.{T, leb, ltb, eqb, leb→le}
 use Rattle.pairs.specs.declared.answer.Pair.{Pair}
 use Rattle.pairs.specs.Rounded as R
 use Rattle.pairs.specs.Rounded.{U, rounded}
 use Rattle.pairs.specs.Figures.{Figures, given, refused, refuse, after}
 use Rattle.pairs.specs.Answers as A
-use Rattle.pairs.specs.Answers.{answers, admitted, fitting}
+use Rattle.pairs.specs.Answers.{answers, admit, fitting}
 use Rattle.pairs.proofs.Kept.{Kept}
 use Rattle.pairs.proofs.Ordered as O
 use Rattle.pairs.proofs.Ordered.{Ordered}
@@ -62,19 +62,9 @@ pub record Agrees (f : Figures) (p : Pair) : Type 0 where
 pub agreed : {f : Figures} {p : Pair} → Agrees f p → f .number ≡ 0 → f ≡ given p
 agreed h z = λ i. record { number = z i; pair = h .same z i }
 
--- An answer that is ordered where it is given agrees with its own pair; a pair that passes 61 does.
+-- An answer that is ordered where it is given agrees with its own pair.
 pub itself : (f : Figures) → (f .number ≡ 0 → Ordered (f .pair)) → Agrees f (f .pair)
 itself f h = record { same = λ _. refl; ordered = h }
-
-pub admitted-agrees : (p : Pair) → Agrees (admitted p) p
-unfolding admitted
-admitted-agrees p =
-    let disordered : Bool = ltb (p .high) (p .low) in
-    let passes : (refuse disordered (refused 61) (given p)) .number ≡ 0 → refuse disordered (refused 61) (given p) ≡ given p = λ z. refuse-passed disordered 60 (given p) z .1 in
-    record {
-      same = λ z. ap (λ (f : Figures). f .pair) (passes z);
-      ordered = λ z. rw (passes z) (record { ends = nltb→le (p .high) (p .low) (not-T disordered (refuse-passed disordered 60 (given p) z .0)) });
-    }
 
 -- A tail t that gives the pair of an operation, after what it takes.
 one-part : {a : Figures} {p : Pair} (t : Figures) (op : Pair → Pair) → Agrees a p → (t .number ≡ 0 → t .pair ≡ op (a .pair)) → (t .number ≡ 0 → Ordered (a .pair) → Ordered (op (a .pair))) → Agrees (after a t) (op p)
@@ -104,49 +94,76 @@ two-parts {a} {b} {p} {q} t op h k same ord =
 fitting-same : (p : Pair) → (fitting p) .number ≡ 0 → (fitting p) .pair ≡ p
 fitting-same p z = ap (λ (f : Figures). f .pair) (fitting-passed p z)
 
--- A test before a tail that fits.
-tested-same : (b : Bool) (n : ℕ) (p : Pair) → (refuse b (refused (suc n)) (fitting p)) .number ≡ 0 → (refuse b (refused (suc n)) (fitting p)) .pair ≡ p
-tested-same b n p z = let w = refuse-passed b n (fitting p) z .1 in rw w (fitting-same p (rw w at z))
+-- A test before what gives the pair.
+tested-same : {p : Pair} (b : Bool) (n : ℕ) (f : Figures) → (f .number ≡ 0 → f .pair ≡ p) → (refuse b (refused (suc n)) f) .number ≡ 0 → (refuse b (refused (suc n)) f) .pair ≡ p
+tested-same b n f h z = let w = refuse-passed b n f z .1 in rw w (h (rw w at z))
 
--- A test that lets a itself through.
-let-through : {a : Figures} {p : Pair} (b : Bool) → Agrees a p → Agrees (after a (refuse b (refused 63) a)) p
+admit-same : {r : Pair} (p : Pair) (f : Figures) → (f .number ≡ 0 → f .pair ≡ r) → (admit p f) .number ≡ 0 → (admit p f) .pair ≡ r
+admit-same p = tested-same (ltb (p .high) (p .low)) 60
+
+admit-two-same : {r : Pair} (p q : Pair) (f : Figures) → (f .number ≡ 0 → f .pair ≡ r) → (admit p (admit q f)) .number ≡ 0 → (admit p (admit q f)) .pair ≡ r
+admit-two-same p q f h = admit-same p (admit q f) (admit-same q f h)
+
+-- What stands behind a test that was passed.
+past : (b : Bool) (n : ℕ) (f : Figures) → (refuse b (refused (suc n)) f) .number ≡ 0 → f .number ≡ 0
+past b n f z = rw (refuse-passed b n f z .1) at z
+
+past-admit : (p : Pair) (f : Figures) → (admit p f) .number ≡ 0 → f .number ≡ 0
+past-admit p = past (ltb (p .high) (p .low)) 60
+
+-- A test that lets the pair itself through.
+let-through : {a : Figures} {p : Pair} (b : Bool) → Agrees a p → Agrees (after a (admit (a .pair) (refuse b (refused 63) (given (a .pair))))) p
 let-through {a} b h =
-    one-part (refuse b (refused 63) a) (λ p. p) h (λ z. ap (λ (f : Figures). f .pair) (refuse-passed b 62 a z .1)) (λ z o. o)
+    one-part (admit (a .pair) (refuse b (refused 63) (given (a .pair)))) (λ p. p) h
+    (admit-same (a .pair) (refuse b (refused 63) (given (a .pair))) (tested-same b 62 (given (a .pair)) (λ _. refl))) (λ z o. o)
 
 pub above-0 : (n : ℕ) → (T (eqb n 0) → ⊥) → zero < n
 above-0 zero h = absurd (h tt)
 above-0 (suc n) h = zero-lt-suc n
 
 quotient-agrees : {a b : Figures} {p q : Pair} → Agrees a p → Agrees b q → Agrees (A.quotient a b) (R.quotient p q)
-unfolding A.quotient
+unfolding A.quotient A.quotient-of
 quotient-agrees {a} {b} h k =
     let no-divisor : Bool = eqb (b .pair .low) 0 in
-    let t = fitting (R.quotient (a .pair) (b .pair)) in
-    two-parts (refuse no-divisor (refused 62) t) R.quotient h k (tested-same no-divisor 61 (R.quotient (a .pair) (b .pair)))
-    (λ z. O.quotient-ordered (above-0 (b .pair .low) (refuse-passed no-divisor 61 t z .0)))
+    let fits = fitting (R.quotient (a .pair) (b .pair)) in
+    let tail = refuse no-divisor (refused 62) fits in
+    two-parts (admit (a .pair) (admit (b .pair) tail)) R.quotient h k
+    (admit-two-same (a .pair) (b .pair) tail (tested-same no-divisor 61 fits (fitting-same (R.quotient (a .pair) (b .pair)))))
+    (λ z. O.quotient-ordered (above-0 (b .pair .low) (refuse-passed no-divisor 61 fits (past-admit (b .pair) tail (past-admit (a .pair) (admit (b .pair) tail) z)) .0)))
 
 over-agrees : {a : Figures} {p : Pair} → Agrees a p → (n : ℕ) → Agrees (A.over a n) (R.over p n)
-unfolding A.over
+unfolding A.over A.over-of
 over-agrees {a} h n =
     let no-divisor : Bool = eqb n 0 in
-    let t = fitting (R.over (a .pair) n) in
-    one-part (refuse no-divisor (refused 62) t) (λ p. R.over p n) h (tested-same no-divisor 61 (R.over (a .pair) n))
-    (λ z o. O.over-ordered o n (above-0 n (refuse-passed no-divisor 61 t z .0)))
+    let fits = fitting (R.over (a .pair) n) in
+    let tail = refuse no-divisor (refused 62) fits in
+    one-part (admit (a .pair) tail) (λ p. R.over p n) h
+    (admit-same (a .pair) tail (tested-same no-divisor 61 fits (fitting-same (R.over (a .pair) n))))
+    (λ z o. O.over-ordered o n (above-0 n (refuse-passed no-divisor 61 fits (past-admit (a .pair) tail z) .0)))
+
+-- An operation whose result is only tested for 64.
+one-agrees : {a : Figures} {p : Pair} (op : Pair → Pair) → (Ordered (a .pair) → Ordered (op (a .pair))) → Agrees a p → Agrees (after a (admit (a .pair) (fitting (op (a .pair))))) (op p)
+one-agrees {a} op ord h = one-part (admit (a .pair) (fitting (op (a .pair)))) op h (admit-same (a .pair) _ (fitting-same (op (a .pair)))) (λ z. ord)
+
+two-agree : {a b : Figures} {p q : Pair} (op : Pair → Pair → Pair) → (Ordered (a .pair) → Ordered (b .pair) → Ordered (op (a .pair) (b .pair))) → Agrees a p → Agrees b q → Agrees (after a (after b (admit (a .pair) (admit (b .pair) (fitting (op (a .pair) (b .pair))))))) (op p q)
+two-agree {a} {b} op ord h k =
+    two-parts (admit (a .pair) (admit (b .pair) (fitting (op (a .pair) (b .pair))))) op h k
+    (admit-two-same (a .pair) (b .pair) _ (fitting-same (op (a .pair) (b .pair)))) (λ z. ord)
 
 pub agreement : Kept answers rounded Agrees
-unfolding A.constant A.sum A.difference A.product A.times A.root A.fifth-root A.larger A.high-only A.at-most-one A.at-most-a-third A.below-256
+unfolding A.constant A.sum A.sum-of A.difference A.difference-of A.product A.product-of A.times A.times-of A.root A.root-of A.fifth-root A.fifth-root-of A.larger A.larger-of A.high-only A.high-only-of A.at-most-one A.at-most-one-of A.at-most-a-third A.at-most-a-third-of A.below-256 A.below-256-of
 agreement =
     record {
       same-terms = refl;
       constant = λ n d. record { same = fitting-same (R.constant n d); ordered = λ z. rw (fitting-same (R.constant n d) z) (O.constant-ordered n d) };
-      sum = λ h k. two-parts _ R.sum h k (fitting-same _) (λ z. O.sum-ordered);
-      difference = λ h k. two-parts _ R.difference h k (fitting-same _) (λ z. O.difference-ordered);
-      product = λ h k. two-parts _ R.product h k (fitting-same _) (λ z. O.product-ordered);
+      sum = λ h k. two-agree R.sum O.sum-ordered h k;
+      difference = λ h k. two-agree R.difference O.difference-ordered h k;
+      product = λ h k. two-agree R.product O.product-ordered h k;
       quotient = quotient-agrees;
-      times = λ h n. one-part _ (λ p. R.times p n) h (fitting-same _) (λ z o. O.times-ordered o n);
+      times = λ h n. one-agrees (λ p. R.times p n) (λ o. O.times-ordered o n) h;
       over = over-agrees;
-      root = λ h. one-part _ R.root h (fitting-same _) (λ z. O.root-ordered);
-      fifth-root = λ h. one-part _ R.fifth-root h (fitting-same _) (λ z. O.fifth-root-ordered);
+      root = λ h. one-agrees R.root O.root-ordered h;
+      fifth-root = λ h. one-agrees R.fifth-root O.fifth-root-ordered h;
       larger = λ h k. two-parts _ R.larger h k (fitting-same _) (λ z. O.larger-ordered);
       high-only = λ h. one-part _ R.high-only h (fitting-same _) (λ z o. O.high-only-ordered _);
       at-most-one = λ {a} {b} h. let-through (ltb U (a .pair .high)) h;

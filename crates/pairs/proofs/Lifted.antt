@@ -1,9 +1,8 @@
--- Operations on answers: one that gives a pair gives it in order, as a pair that has passed 61, and a refusal stays.
--- By the agreement of answers with rounded pairs, and by cases of the answer. Assumes nothing.
+-- Operations on answers: a refusal that comes in stays, and pairs go to the operation on pairs. By cases of the answer. Assumes nothing.
 use mathlib.Core.Path.{_≡_, refl, sym}
 use mathlib.Core.List.{[], _∷_}
 use mathlib.Core.Logic.{inl, inr}
-use Prim.Native.Nat.{ℕ, suc, zero-le}
+use Prim.Native.Nat.{ℕ, suc}
 use native.Mathlib.Omega.{arith}
 use types.Run
 use denote.Enum.Declared
@@ -11,23 +10,8 @@ use Rattle.pairs.proofs.answer.Answer as answer
 use Rattle.pairs.specs.declared.answer.Pair.{Pair}
 use Rattle.pairs.specs.declared.answer.Answer.{Answer}
 use Rattle.pairs.specs.declared.answer.Answer.the-variants.{Is, Disordered, ZeroDivisor, OutOfSpan, TooLarge}
-use Rattle.pairs.specs.Figures.{Figures, given, refused, figures, after}
-use Rattle.pairs.specs.Answers.{admitted}
-use Rattle.pairs.specs.Private.{in-order}
-use Rattle.pairs.proofs.Agreement.{Agrees}
-use Rattle.pairs.proofs.Turned.{ordered}
-
--- An answer that agrees with a rounded pair is in order.
-pub answer-in-order : (r : Answer) {f : Figures} {p : Pair} → figures r ≡ f → Agrees f p → in-order r
-answer-in-order (Is q) {p = p} e h = let k : Agrees (given q) p = rw e h in k .ordered refl .ends
-answer-in-order Disordered e h = zero-le
-answer-in-order ZeroDivisor e h = zero-le
-answer-in-order OutOfSpan e h = zero-le
-answer-in-order TooLarge e h = zero-le
-
--- The pair of an answer in order has passed 61.
-pub passed-61 : (a : Answer) (p : Pair) → in-order a → a ≡ Is p → figures a ≡ admitted p
-passed-61 a p o e = rw e (sym (ordered p (rw e at o)))
+use Rattle.pairs.specs.Figures.{Figures, refused, figures, after}
+use Rattle.pairs.specs.Answers.{on-one, on-two}
 
 -- What is known of an answer that is no pair: its tag is one of the refusals'.
 abbrev pub Refused : Answer → Type 0
@@ -54,3 +38,10 @@ stays a f = stays-in (λ x. after x f) (λ n. refl) a
 -- and as the second, after a first that gives.
 pub stays-second : (a b : Answer) (p : Pair) (f : Figures) → a ≡ Is p → Refused b → figures b ≡ after (figures a) (after (figures b) f)
 stays-second a b p f e h = rw e (stays b f h)
+
+-- Answers that are pairs: the operation on the pairs.
+pub gives-one : (f : Pair → Figures) (a : Answer) (p : Pair) (r : Figures) → a ≡ Is p → r ≡ f p → r ≡ on-one f (figures a)
+gives-one f a p r e h = rw e h
+
+pub gives-two : (f : Pair → Pair → Figures) (a b : Answer) (p q : Pair) (r : Figures) → a ≡ Is p → b ≡ Is q → r ≡ f p q → r ≡ on-two f (figures a) (figures b)
+gives-two f a b p q r e g h = rw (e, g) h

@@ -2,7 +2,7 @@
 -- By computing the series on a refusal. Assumes nothing.
 use mathlib.Core.Path.{_≡_, refl, sym}
 use Prim.Native.Nat.{ℕ, zero, suc, _*_, _≤_, _<_}
-use borrow.Author.Tests.{lt-ltb, le-leb}
+use borrow.Author.Tests.{lt-ltb, le-ltb, le-leb}
 use Rattle.pairs.specs.declared.answer.Pair.{Pair}
 use Rattle.pairs.specs.Rounded as R
 use Rattle.pairs.specs.Rounded.{U}
@@ -10,7 +10,6 @@ use Rattle.pairs.specs.Figures.{refused}
 use Rattle.pairs.specs.Answers as A
 use Rattle.pairs.specs.Answers.{answers, arc-of, h-series-of, exp-neg-of}
 use Rattle.pairs.specs.Series.{plus-terms, alternating, power, arc-term, arc, half-angle, atan, exp-term, squared, exp-neg, total, h-of, h-series}
-use Rattle.pairs.proofs.Turned.{disordered, ordered}
 
 module _ (n : ℕ) where
   arc-terms-refused : alternating answers (arc-term answers (refused (suc n))) ≡ refused (suc n)
@@ -18,7 +17,7 @@ module _ (n : ℕ) where
   arc-terms-refused = refl
 
   exp-terms-refused : alternating answers (exp-term answers (refused (suc n))) ≡ refused (suc n)
-  unfolding alternating plus-terms exp-term A.constant A.fitting R.constant A.sum R.sum A.difference A.product A.over
+  unfolding alternating plus-terms exp-term A.constant A.fitting R.constant A.sum A.sum-of R.sum A.difference A.product A.over
   exp-terms-refused = refl
 
   h-refused : h-of answers (refused (suc n)) ≡ refused (suc n)
@@ -45,26 +44,27 @@ module _ (n : ℕ) where
 -- ---- arc
 module _ (t : Pair) where
   pub arc-61 : t .high < t .low → refused 61 ≡ arc-of t
-  arc-61 h = rw (disordered t h) (sym (arc-refused 60))
+  unfolding arc A.at-most-one A.at-most-one-of
+  arc-61 h = rw (lt-ltb (t .high) (t .low) h) (sym (arc-terms-refused 60))
 
   pub arc-63 : t .low ≤ t .high → U < t .high → refused 63 ≡ arc-of t
-  unfolding arc A.at-most-one
-  arc-63 o h = rw (ordered t o, lt-ltb U (t .high) h) (sym (arc-terms-refused 62))
+  unfolding arc A.at-most-one A.at-most-one-of
+  arc-63 o h = rw (le-ltb (t .high) (t .low) o, lt-ltb U (t .high) h) (sym (arc-terms-refused 62))
 
   -- ---- H
   pub h-61 : t .high < t .low → refused 61 ≡ h-series-of t
-  unfolding h-series A.at-most-a-third
-  h-61 h = rw (disordered t h) (sym (h-refused 60))
+  unfolding h-series A.at-most-a-third A.at-most-a-third-of
+  h-61 h = rw (lt-ltb (t .high) (t .low) h) (sym (h-refused 60))
 
   pub h-63 : t .low ≤ t .high → 333_333_333_334 < t .high → refused 63 ≡ h-series-of t
-  unfolding h-series A.at-most-a-third R.up
-  h-63 o h = rw (ordered t o, lt-ltb 333_333_333_334 (t .high) h) (sym (h-refused 62))
+  unfolding h-series A.at-most-a-third A.at-most-a-third-of R.up
+  h-63 o h = rw (le-ltb (t .high) (t .low) o, lt-ltb 333_333_333_334 (t .high) h) (sym (h-refused 62))
 
   -- ---- exp
   pub exp-61 : t .high < t .low → refused 61 ≡ exp-neg-of t
-  unfolding exp-neg A.below-256 A.over
-  exp-61 h = rw (disordered t h, exp-terms-refused 60) (sym (squared-refused 60 8))
+  unfolding exp-neg A.below-256 A.below-256-of A.over
+  exp-61 h = rw (lt-ltb (t .high) (t .low) h, exp-terms-refused 60) (sym (squared-refused 60 8))
 
   pub exp-63 : t .low ≤ t .high → 256 * U ≤ t .high → refused 63 ≡ exp-neg-of t
-  unfolding exp-neg A.below-256 A.over
-  exp-63 o h = rw (ordered t o, le-leb (256 * U) (t .high) h, exp-terms-refused 62) (sym (squared-refused 62 8))
+  unfolding exp-neg A.below-256 A.below-256-of A.over
+  exp-63 o h = rw (le-ltb (t .high) (t .low) o, le-leb (256 * U) (t .high) h, exp-terms-refused 62) (sym (squared-refused 62 8))

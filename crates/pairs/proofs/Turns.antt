@@ -58,8 +58,8 @@ pub record Alternated (term : ℕ → Pair) (n : ℕ) (sum other : Pair) : Type 
 module _ (term : ℕ → Pair) (small : (j : ℕ) → Within U (term j)) where
   second-within : (n : ℕ) → Within (n * U) (every-second term n)
   unfolding every-second R.sum
-  second-within zero = record { low = zero-le; high = zero-le }
-  second-within (suc zero) = record { low = zero-le; high = zero-le }
+  second-within zero = record { ordered = zero-le; high = zero-le }
+  second-within (suc zero) = record { ordered = zero-le; high = zero-le }
   second-within (suc (suc n)) = omega (arith, second-within n, small n)
 
   alternated : (n : ℕ) (sum other : Pair) → sum ≡ every-second term n → other ≡ every-second term (suc n) → Alternated term n sum other

@@ -8,58 +8,106 @@ use Rattle.pairs.specs.Rounded.{U}
 use Rattle.pairs.specs.Figures.{Figures, given, refused, refuse, after}
 use Rattle.pairs.specs.Series as series
 
--- "61, a pair whose low end is above its high end": tested of every pair that comes in, before anything else.
-unfoldable pub admitted : Pair → Figures
-admitted p = refuse (ltb (p .high) (p .low)) (refused 61) (given p)
+-- "61, a pair whose low end is above its high end": tested of every pair that comes in, before anything else. Else what follows.
+abbrev pub admit : Pair → Figures → Figures
+admit p f = refuse (ltb (p .high) (p .low)) (refused 61) f
 
 -- "64, the high end of the result or of a step in it is 2^64 trillionths or more."
 unfoldable pub fitting : Pair → Figures
 fitting p = refuse (leb (2 ^ 64) (p .high)) (refused 64) (given p)
 
+-- ---- the public operations on pairs
+unfoldable pub sum-of : Pair → Pair → Figures
+sum-of p q = admit p (admit q (fitting (rounded.sum p q)))
+
+unfoldable pub difference-of : Pair → Pair → Figures
+difference-of p q = admit p (admit q (fitting (rounded.difference p q)))
+
+unfoldable pub product-of : Pair → Pair → Figures
+product-of p q = admit p (admit q (fitting (rounded.product p q)))
+
+-- "62, a divisor whose low end is 0, or the whole number 0 after over."
+unfoldable pub quotient-of : Pair → Pair → Figures
+quotient-of p q = admit p (admit q (refuse (eqb (q .low) 0) (refused 62) (fitting (rounded.quotient p q))))
+
+unfoldable pub times-of : Pair → ℕ → Figures
+times-of p n = admit p (fitting (rounded.times p n))
+
+unfoldable pub over-of : Pair → ℕ → Figures
+over-of p n = admit p (refuse (eqb n 0) (refused 62) (fitting (rounded.over p n)))
+
+-- "Trials inside a root or fifth root are no steps."
+unfoldable pub root-of : Pair → Figures
+root-of p = admit p (fitting (rounded.root p))
+
+unfoldable pub fifth-root-of : Pair → Figures
+fifth-root-of p = admit p (fitting (rounded.fifth-root p))
+
+-- ---- the parts of a series and of the worst face
+unfoldable pub larger-of : Pair → Pair → Figures
+larger-of p q = fitting (rounded.larger p q)
+
+unfoldable pub high-only-of : Pair → Figures
+high-only-of p = fitting (rounded.high-only p)
+
+-- "63, a high end above 1 in arc, above 1/3 (the pair's high end) in H, or y's high end 256 or more in exp."
+unfoldable pub at-most-one-of : Pair → Figures
+at-most-one-of p = admit p (refuse (ltb U (p .high)) (refused 63) (given p))
+
+unfoldable pub at-most-a-third-of : Pair → Figures
+at-most-a-third-of p = admit p (refuse (ltb (rounded.up (U * U) (3 * U)) (p .high)) (refused 63) (given p))
+
+unfoldable pub below-256-of : Pair → Figures
+below-256-of p = admit p (refuse (leb (256 * U) (p .high)) (refused 63) (given p))
+
+-- ---- the same on answers: the first refusal that comes in stays
+abbrev pub on-one : (Pair → Figures) → Figures → Figures
+on-one f a = after a (f (a .pair))
+
+abbrev pub on-two : (Pair → Pair → Figures) → Figures → Figures → Figures
+on-two f a b = after a (after b (f (a .pair) (b .pair)))
+
 unfoldable pub constant : ℕ → ℕ → Figures
 constant n d = fitting (rounded.constant n d)
 
 unfoldable pub sum : Figures → Figures → Figures
-sum a b = after a (after b (fitting (rounded.sum (a .pair) (b .pair))))
+sum a b = on-two sum-of a b
 
 unfoldable pub difference : Figures → Figures → Figures
-difference a b = after a (after b (fitting (rounded.difference (a .pair) (b .pair))))
+difference a b = on-two difference-of a b
 
 unfoldable pub product : Figures → Figures → Figures
-product a b = after a (after b (fitting (rounded.product (a .pair) (b .pair))))
+product a b = on-two product-of a b
 
--- "62, a divisor whose low end is 0, or the whole number 0 after over."
 unfoldable pub quotient : Figures → Figures → Figures
-quotient a b = after a (after b (refuse (eqb (b .pair .low) 0) (refused 62) (fitting (rounded.quotient (a .pair) (b .pair)))))
+quotient a b = on-two quotient-of a b
 
 unfoldable pub times : Figures → ℕ → Figures
-times a n = after a (fitting (rounded.times (a .pair) n))
+times a n = on-one (λ p. times-of p n) a
 
 unfoldable pub over : Figures → ℕ → Figures
-over a n = after a (refuse (eqb n 0) (refused 62) (fitting (rounded.over (a .pair) n)))
+over a n = on-one (λ p. over-of p n) a
 
--- "Trials inside a root or fifth root are no steps."
 unfoldable pub root : Figures → Figures
-root a = after a (fitting (rounded.root (a .pair)))
+root a = on-one root-of a
 
 unfoldable pub fifth-root : Figures → Figures
-fifth-root a = after a (fitting (rounded.fifth-root (a .pair)))
+fifth-root a = on-one fifth-root-of a
 
 unfoldable pub larger : Figures → Figures → Figures
-larger a b = after a (after b (fitting (rounded.larger (a .pair) (b .pair))))
+larger a b = on-two larger-of a b
 
 unfoldable pub high-only : Figures → Figures
-high-only a = after a (fitting (rounded.high-only (a .pair)))
+high-only a = on-one high-only-of a
 
--- "63, a high end above 1 in arc, above 1/3 (the pair's high end) in H, or y's high end 256 or more in exp."
 unfoldable pub at-most-one : Figures → Figures
-at-most-one a = after a (refuse (ltb U (a .pair .high)) (refused 63) a)
+at-most-one a = on-one at-most-one-of a
 
 unfoldable pub at-most-a-third : Figures → Figures
-at-most-a-third a = after a (refuse (ltb (rounded.up (U * U) (3 * U)) (a .pair .high)) (refused 63) a)
+at-most-a-third a = on-one at-most-a-third-of a
 
 unfoldable pub below-256 : Figures → Figures
-below-256 a = after a (refuse (leb (256 * U) (a .pair .high)) (refused 63) a)
+below-256 a = on-one below-256-of a
 
 -- The arithmetic of answers: a pair with ends below 2^64, or the refusal that stays.
 abbrev pub answers : Arithmetic
@@ -83,46 +131,22 @@ answers =
       below-256 = below-256;
     }
 
--- The public operations: each is the operation of the arithmetic above, or its series, on pairs that have passed 61.
+-- ---- the series on a pair, and the constants
 -- "In atan, after 61, the first refusal that its steps meet, in their order, is given."
-abbrev pub sum-of : Pair → Pair → Figures
-sum-of p q = sum (admitted p) (admitted q)
-
-abbrev pub difference-of : Pair → Pair → Figures
-difference-of p q = difference (admitted p) (admitted q)
-
-abbrev pub product-of : Pair → Pair → Figures
-product-of p q = product (admitted p) (admitted q)
-
-abbrev pub quotient-of : Pair → Pair → Figures
-quotient-of p q = quotient (admitted p) (admitted q)
-
-abbrev pub times-of : Pair → ℕ → Figures
-times-of p n = times (admitted p) n
-
-abbrev pub over-of : Pair → ℕ → Figures
-over-of p n = over (admitted p) n
-
-abbrev pub root-of : Pair → Figures
-root-of p = root (admitted p)
-
-abbrev pub fifth-root-of : Pair → Figures
-fifth-root-of p = fifth-root (admitted p)
-
 abbrev pub arc-of : Pair → Figures
-arc-of p = series.arc answers (admitted p)
+arc-of p = series.arc answers (given p)
 
 abbrev pub atan-of : Pair → Figures
-atan-of p = series.atan answers (admitted p)
+atan-of p = series.atan answers (given p)
 
 abbrev pub pi : Figures
 pi = series.pi answers
 
 abbrev pub exp-neg-of : Pair → Figures
-exp-neg-of p = series.exp-neg answers (admitted p)
+exp-neg-of p = series.exp-neg answers (given p)
 
 abbrev pub h-series-of : Pair → Figures
-h-series-of p = series.h-series answers (admitted p)
+h-series-of p = series.h-series answers (given p)
 
 abbrev pub ln-ten : Figures
 ln-ten = series.ln-ten answers

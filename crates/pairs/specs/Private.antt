@@ -1,12 +1,9 @@
 -- Vocabulary of private functions' contracts. No public contract uses it.
-use mathlib.Core.Path.{_≡_}
 use Prim.Native.Nat.{ℕ, suc, _+_, _*_, _/_, _≤_, _<_}
 use mathlib.Core.Bool.{Bool, true, _&&_}
 use mathlib.Core.List.{List, [], _∷_}
 use lib.Dec.{leb, ltb}
-use Rattle.pairs.specs.declared.answer.Answer.{Answer}
 use Rattle.pairs.specs.Rounded.{U}
-use Rattle.pairs.specs.Figures.{Figures, figures}
 
 -- n over U: rounded down where extra is 0, and up where it is 999,999, since 999,999·1,000,001 is U - 1.
 unfoldable pub carried : ℕ → ℕ → ℕ
@@ -22,14 +19,6 @@ pub record Brackets (extra t lower upper : ℕ) : Type 0 where
   pub limit : upper ≤ 28_391_212_775_636
   pub within : fourth-power extra lower * lower ≤ t
   pub beyond : t < fourth-power extra upper * upper
-
--- The pair of an answer has its low end at most its high end; the [0, 0] of a refusal has.
-abbrev pub in-order : Answer → Type 0
-in-order a = (figures a) .pair .low ≤ (figures a) .pair .high
-
--- The answer has these figures, in order.
-abbrev pub Gives : Answer → Figures → Type 0
-Gives a f = (figures a ≡ f) × in-order a
 
 -- "row i for i from 256 to 1,023 holding the whole part of the root of 65,536·i": row² ≤ 65,536·i < (row + 1)².
 unfoldable pub square-rule : ℕ → ℕ → Bool

@@ -9,16 +9,13 @@ use super::root::root;
 use super::sum::sum;
 use super::times::times;
 ghost use mathlib.Core.Path.{_≡_};
-ghost use Prim.Native.Nat.{_≤_};
 ghost use Rattle.pairs.specs.Figures.{figures, given};
 ghost use Rattle.pairs.specs.Answers.{answers, atan-of};
-ghost use Rattle.pairs.specs.Private.{in-order, Gives};
 ghost use Rattle.pairs.specs.Series as series;
 
 // 1 + a.
 fn one_more(a: Answer) -> Answer
-    requires { ⌜ in-order a ⌝ }
-    ensures { λ r. ⌜ Gives r (answers .sum (series.one answers) (figures a)) ⌝ }
+    ensures { λ r. ⌜ figures r ≡ answers .sum (series.one answers) (figures a) ⌝ }
 {
     let Answer::Is(p) = a else {
         return a;
@@ -33,8 +30,7 @@ fn one_more(a: Answer) -> Answer
 }
 
 fn root_of(a: Answer) -> Answer
-    requires { ⌜ in-order a ⌝ }
-    ensures { λ r. ⌜ Gives r (answers .root (figures a)) ⌝ }
+    ensures { λ r. ⌜ figures r ≡ answers .root (figures a) ⌝ }
 {
     let Answer::Is(p) = a else {
         return a;
@@ -43,8 +39,7 @@ fn root_of(a: Answer) -> Answer
 }
 
 fn over_answer(t: Pair, a: Answer) -> Answer
-    requires { ⌜ (t .low ≤ t .high) × in-order a ⌝ }
-    ensures { λ r. ⌜ Gives r (answers .quotient (given t) (figures a)) ⌝ }
+    ensures { λ r. ⌜ figures r ≡ answers .quotient (given t) (figures a) ⌝ }
 {
     let Answer::Is(p) = a else {
         return a;
@@ -54,8 +49,7 @@ fn over_answer(t: Pair, a: Answer) -> Answer
 
 // t/(1+root(1+t·t)).
 fn half_angle(a: Answer) -> Answer
-    requires { ⌜ in-order a ⌝ }
-    ensures { λ r. ⌜ Gives r (series.half-angle answers (figures a)) ⌝ }
+    ensures { λ r. ⌜ figures r ≡ series.half-angle answers (figures a) ⌝ }
 {
     let Answer::Is(t) = a else {
         return a;
@@ -65,7 +59,6 @@ fn half_angle(a: Answer) -> Answer
 
 // 4 times the arc.
 fn four_arcs(a: Answer) -> Answer
-    requires { ⌜ in-order a ⌝ }
     ensures { λ r. ⌜ figures r ≡ answers .times (series.arc answers (figures a)) 4 ⌝ }
 {
     let Answer::Is(t) = a else {

@@ -13,7 +13,6 @@ ghost use Rattle.pairs.specs.Rounded as rounded;
 ghost use Rattle.pairs.specs.Rounded.{U};
 ghost use Rattle.pairs.specs.Figures.{figures};
 ghost use Rattle.pairs.specs.Answers.{answers, exp-neg-of};
-ghost use Rattle.pairs.specs.Private.{in-order, Gives};
 ghost use Rattle.pairs.specs.Series as series;
 
 // 16 terms and the seventeenth, for z at most 1.
@@ -48,8 +47,7 @@ fn alternating_exp(z: Pair) -> Pair
 
 // The square of an answer: a refusal stays.
 fn square(a: Answer) -> Answer
-    requires { ⌜ in-order a ⌝ }
-    ensures { λ r. ⌜ Gives r (answers .product (figures a) (figures a)) ⌝ }
+    ensures { λ r. ⌜ figures r ≡ answers .product (figures a) (figures a) ⌝ }
 {
     let Answer::Is(p) = a else {
         return a;

@@ -6,21 +6,21 @@ use lib.Dec.{lit<, lit≤}
 use Rattle.pairs.specs.Rounded as rounded
 use Rattle.pairs.specs.Rounded.{U, ends, root-down, root-up, fifth-root-down, fifth-root-up, fifth-power-up, fifth-power-down, up, down}
 use Rattle.pairs.specs.Figures.{given}
-use Rattle.pairs.specs.Answers.{admitted, fitting, root, fifth-root, product, quotient, difference, root-of, fifth-root-of}
+use Rattle.pairs.specs.Answers.{fitting, product-of, quotient-of, difference-of, root-of, fifth-root-of}
 use Rattle.pairs.proofs.Search.{root-down-is, root-up-is, fifth-root-down-is, fifth-root-up-is}
 use Rattle.sheet.specs.Bytes.{two}
 use Rattle.sheet.specs.Reading.{fuels-of, pools-of, targets-of, fuel-index, pool-index, some, no-fuel, no-pool, section, after-sections, from-targets, from-pools, reading-of}
 use Rattle.sheet.specs.Benchmarks.{whole, Benchmarks}
 
 root-of-4 : root-of (whole 4) ≡ given (whole 2)
-unfolding admitted root fitting rounded.root
+unfolding root-of fitting rounded.root
 root-of-4 =
     let low : root-down (4 * U * U) ≡ 2 * U = root-down-is (4 * U * U) (2 * U) (lit≤ tt) (lit< tt) in
     let high : root-up (4 * U * U) ≡ 2 * U = root-up-is (4 * U * U) 1_999_999_999_999 (lit< tt) (lit≤ tt) in
     rw (low, high)
 
 root-of-2 : root-of (whole 2) ≡ given (ends 1_414_213_562_373 1_414_213_562_374)
-unfolding admitted root fitting rounded.root
+unfolding root-of fitting rounded.root
 root-of-2 =
     let low : root-down (2 * U * U) ≡ 1_414_213_562_373 = root-down-is (2 * U * U) 1_414_213_562_373 (lit≤ tt) (lit< tt) in
     let high : root-up (2 * U * U) ≡ 1_414_213_562_374 = root-up-is (2 * U * U) 1_414_213_562_373 (lit< tt) (lit≤ tt) in
@@ -35,11 +35,11 @@ unfolding fifth-power-down down
 fifth-high = fifth-root-up-is (32 * U) 1_999_999_999_999 (lit< tt) (lit≤ tt)
 
 fifth-root-of-32 : fifth-root-of (whole 32) ≡ given (whole 2)
-unfolding admitted fifth-root fitting rounded.fifth-root
+unfolding fifth-root-of fitting rounded.fifth-root
 fifth-root-of-32 = rw (fifth-low, fifth-high)
 
 pub benchmarks : Benchmarks
-unfolding admitted fitting product quotient difference rounded.product rounded.quotient rounded.difference up down two fuels-of pools-of targets-of fuel-index pool-index some no-fuel no-pool section after-sections from-targets from-pools reading-of
+unfolding fitting product-of quotient-of difference-of rounded.product rounded.quotient rounded.difference up down two fuels-of pools-of targets-of fuel-index pool-index some no-fuel no-pool section after-sections from-targets from-pools reading-of
 benchmarks =
     record {
       A = root-of-4;

@@ -88,7 +88,7 @@ returns-4 c = let f = c .before in
     let h = sym (e1 .before .outside .ensures) ∙ e1 .if1 .left in
     let k = sym (e2 .before .outside2 .ensures) ∙ e2 .if2 .left in
     let m = sym (e3 .before .outside3 .ensures) ∙ e3 .if3 .left in
-    absurd (never-refused (f .factor-of .result) _ (worked _ _ _ h k m _ _ _ (f .before .before .exact .ensures .0) (f .before .exact2 .ensures .0) (f .factor-of .ensures .0)) (c .match .keys2))
+    absurd (never-refused (f .factor-of .result) _ (worked _ _ _ h k m _ _ _ (f .before .before .exact .ensures) (f .before .exact2 .ensures) (f .factor-of .ensures)) (c .match .keys2))
 
 returns-5 : tie.Need-returns-5
 returns-5 c = let f = c .before .before .before in
@@ -98,7 +98,7 @@ returns-5 c = let f = c .before .before .before in
     let h = sym (e1 .before .outside .ensures) ∙ e1 .if1 .left in
     let k = sym (e2 .before .outside2 .ensures) ∙ e2 .if2 .left in
     let m = sym (e3 .before .outside3 .ensures) ∙ e3 .if3 .left in
-    ap given (pair-given _ _ _ (worked _ _ _ h k m _ _ _ (f .before .before .exact .ensures .0) (f .before .exact2 .ensures .0) (f .factor-of .ensures .0)) (c .before .p .given .1))
+    ap given (pair-given _ _ _ (worked _ _ _ h k m _ _ _ (f .before .before .exact .ensures) (f .before .exact2 .ensures) (f .factor-of .ensures)) (c .before .p .given .1))
     ∙ inside _ _ _ h k m
 
 pub factor-spec : {M : Type 1} → statement M

@@ -33,13 +33,13 @@ vertical-requires : tie.Need-vertical-requires
 vertical-requires c κs = search needs
 
 returns : tie.Need-returns
-returns c = (c .vertical .ensures .0 ∙ picked _ _ _ true _ (eq-eqb _ 1 (c .before .if1 .taken)) refl, c .vertical .ensures .1)
+returns c = c .vertical .ensures ∙ picked _ _ _ true _ (eq-eqb _ 1 (c .before .if1 .taken)) refl
 
 horizontal-requires : tie.Need-horizontal-requires
 horizontal-requires c κs = search needs
 
 returns-2 : tie.Need-returns-2
-returns-2 c = (c .horizontal .ensures .0 ∙ picked _ _ _ false true (ne-eqb _ 1 (c .before .before .if1 .left)) (eq-eqb _ 2 (c .before .if2 .taken)), c .horizontal .ensures .1)
+returns-2 c = c .horizontal .ensures ∙ picked _ _ _ false true (ne-eqb _ 1 (c .before .before .if1 .left)) (eq-eqb _ 2 (c .before .if2 .taken))
 
 vertical-requires-2 : tie.Need-vertical-requires-2
 vertical-requires-2 c κs = search needs
@@ -51,11 +51,9 @@ larger-of-requires : tie.Need-larger-of-requires
 larger-of-requires c κs = search needs
 
 returns-3 : tie.Need-returns-3
-returns-3 c = let k = c .before .before .before in (
-  c .larger-of .ensures .0 ∙ ap₂ A.larger (c .before .before .vertical2 .ensures .0) (c .before .horizontal2 .ensures .0)
-      ∙ picked _ _ _ false false (ne-eqb _ 1 (k .before .if1 .left)) (ne-eqb _ 2 (k .if2 .left)),
-  c .larger-of .ensures .1,
-)
+returns-3 c = let k = c .before .before .before in
+    c .larger-of .ensures ∙ ap₂ A.larger (c .before .before .vertical2 .ensures) (c .before .horizontal2 .ensures)
+    ∙ picked _ _ _ false false (ne-eqb _ 1 (k .before .if1 .left)) (ne-eqb _ 2 (k .if2 .left))
 
 pub factor-of-spec : {M : Type 1} → statement M
 factor-of-spec =

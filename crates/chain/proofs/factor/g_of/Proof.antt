@@ -16,7 +16,7 @@ sum-of-requires c κs = search needs
 
 returns : tie.Need-returns
 unfolding chain.g A.constant A.fitting R.constant
-returns c = (c .sum-of .ensures .0 ∙ ap₂ A.sum refl (c .before .exact .ensures .0), c .sum-of .ensures .1)
+returns c = c .sum-of .ensures ∙ ap₂ A.sum refl (c .before .exact .ensures)
 
 pub g-of-spec : {M : Type 1} → statement M
 g-of-spec = tie.close (tie.spec exact-requires sum-of-requires returns)

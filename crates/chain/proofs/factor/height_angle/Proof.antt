@@ -33,10 +33,10 @@ returns : tie.Need-returns
 unfolding chain.height-angle
 returns c =
     let s = c .before .before .before .before in
-    let base = s .root-of .ensures .0 ∙ ap A.root (s .before .product-of .ensures .0 ∙ ap₂ A.product refl (s .before .before .g-of .ensures .0)) in
-    let height = c .before .before .before .quotient-of .ensures .0 ∙ ap₂ A.quotient refl base in
-    let angle = c .before .before .atan-of .ensures .0 ∙ ap (atan A.answers) height in
-    (c .quotient-of2 .ensures .0 ∙ ap₂ A.quotient angle (c .before .x-of .ensures .0), c .quotient-of2 .ensures .1)
+    let base = s .root-of .ensures ∙ ap A.root (s .before .product-of .ensures ∙ ap₂ A.product refl (s .before .before .g-of .ensures)) in
+    let height = c .before .before .before .quotient-of .ensures ∙ ap₂ A.quotient refl base in
+    let angle = c .before .before .atan-of .ensures ∙ ap (atan A.answers) height in
+    c .quotient-of2 .ensures ∙ ap₂ A.quotient angle (c .before .x-of .ensures)
 
 pub height-angle-spec : {M : Type 1} → statement M
 height-angle-spec =

@@ -48,14 +48,14 @@ returns : tie.Need-returns
 unfolding chain.horizontal chain.horizontal-ratio
 returns c =
     let s = c .before .before .before .before .before .before .before in
-    let g = s .before .before .before .before .g-of .ensures .0 in
-    let squares = s .before .sum-of .ensures .0 ∙ ap₂ A.sum (s .before .before .before .product-of .ensures .0) (s .before .before .product-of2 .ensures .0 ∙ ap₂ A.product refl g) in
-    let ratio = s .quotient-of .ensures .0 ∙ ap₂ A.quotient squares (s .before .before .before .before .before .pre .1 .product .0) in
-    let root = c .before .before .before .before .before .root-of .ensures .0 ∙ ap A.root (c .before .before .before .before .before .before .quotient-of2 .ensures .0 ∙ ap₂ A.quotient g refl) in
-    let angle = c .before .before .before .before .atan-of .ensures .0 ∙ ap (atan A.answers) root in
-    let tilted = c .before .before .before .product-of3 .ensures .0 ∙ ap₂ A.product ratio (s .before .before .before .before .before .pre .1 .tilt .0) in
-    let left = c .before .before .difference-of .ensures .0 ∙ ap₂ A.difference angle tilted in
-    (c .quotient-of3 .ensures .0 ∙ ap₂ A.quotient left (c .before .pi-answer .ensures .0), c .quotient-of3 .ensures .1)
+    let g = s .before .before .before .before .g-of .ensures in
+    let squares = s .before .sum-of .ensures ∙ ap₂ A.sum (s .before .before .before .product-of .ensures) (s .before .before .product-of2 .ensures ∙ ap₂ A.product refl g) in
+    let ratio = s .quotient-of .ensures ∙ ap₂ A.quotient squares (s .before .before .before .before .before .pre .product) in
+    let root = c .before .before .before .before .before .root-of .ensures ∙ ap A.root (c .before .before .before .before .before .before .quotient-of2 .ensures ∙ ap₂ A.quotient g refl) in
+    let angle = c .before .before .before .before .atan-of .ensures ∙ ap (atan A.answers) root in
+    let tilted = c .before .before .before .product-of3 .ensures ∙ ap₂ A.product ratio (s .before .before .before .before .before .pre .tilt) in
+    let left = c .before .before .difference-of .ensures ∙ ap₂ A.difference angle tilted in
+    c .quotient-of3 .ensures ∙ ap₂ A.quotient left (c .before .pi-answer .ensures)
 
 pub horizontal-spec : {M : Type 1} → statement M
 horizontal-spec =

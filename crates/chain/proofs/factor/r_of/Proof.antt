@@ -19,8 +19,8 @@ root-of-requires c κs = search needs
 returns : tie.Need-returns
 unfolding chain.r
 returns c =
-    let over-g = c .before .quotient-of .ensures .0 ∙ ap₂ A.quotient refl (c .before .before .g-of .ensures .0) in
-    (c .root-of .ensures .0 ∙ ap A.root over-g, c .root-of .ensures .1)
+    let over-g = c .before .quotient-of .ensures ∙ ap₂ A.quotient refl (c .before .before .g-of .ensures) in
+    c .root-of .ensures ∙ ap A.root over-g
 
 pub r-of-spec : {M : Type 1} → statement M
 r-of-spec = tie.close (tie.spec g-of-requires quotient-of-requires root-of-requires returns)

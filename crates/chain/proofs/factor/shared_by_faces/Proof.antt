@@ -33,14 +33,14 @@ returns : tie.Need-returns
 unfolding chain.tilt
 returns c =
     let s = c .before .before .before in
-    let v = s .before .v-of .ensures .0 in
-    let u = s .before .before .u-of .ensures .0 in
+    let v = s .before .v-of .ensures in
+    let u = s .before .before .u-of .ensures in
     let r = s .before .before .before .r-of .ensures in
-    let over-v = c .before .quotient-of .ensures .0 ∙ ap₂ A.quotient (c .before .before .product-of2 .ensures .0 ∙ ap₂ A.product (r .0) u) v in
+    let over-v = c .before .quotient-of .ensures ∙ ap₂ A.quotient (c .before .before .product-of2 .ensures ∙ ap₂ A.product r u) v in
     record {
       r = r;
-      product = (s .product-of .ensures .0 ∙ ap₂ A.product u v, s .product-of .ensures .1);
-      tilt = (c .atan-of .ensures .0 ∙ ap (atan A.answers) over-v, c .atan-of .ensures .1);
+      product = s .product-of .ensures ∙ ap₂ A.product u v;
+      tilt = c .atan-of .ensures ∙ ap (atan A.answers) over-v;
     }
 
 pub shared-by-faces-spec : {M : Type 1} → statement M

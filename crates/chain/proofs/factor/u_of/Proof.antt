@@ -26,9 +26,9 @@ returns : tie.Need-returns
 unfolding chain.u
 returns c =
     let s = c .before in
-    let g = s .before .before .before .g-of .ensures .0 in
-    let squares = s .sum-of .ensures .0 ∙ ap₂ A.sum (s .before .before .product-of .ensures .0) (s .before .product-of2 .ensures .0 ∙ ap₂ A.product g g) in
-    (c .root-of .ensures .0 ∙ ap A.root squares, c .root-of .ensures .1)
+    let g = s .before .before .before .g-of .ensures in
+    let squares = s .sum-of .ensures ∙ ap₂ A.sum (s .before .before .product-of .ensures) (s .before .product-of2 .ensures ∙ ap₂ A.product g g) in
+    c .root-of .ensures ∙ ap A.root squares
 
 pub u-of-spec : {M : Type 1} → statement M
 u-of-spec =

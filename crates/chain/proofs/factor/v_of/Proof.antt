@@ -23,8 +23,8 @@ returns : tie.Need-returns
 unfolding chain.v
 returns c =
     let s = c .before in
-    let squares = s .sum-of .ensures .0 ∙ ap₂ A.sum (s .before .before .product-of .ensures .0) (s .before .product-of2 .ensures .0) in
-    (c .root-of .ensures .0 ∙ ap A.root squares, c .root-of .ensures .1)
+    let squares = s .sum-of .ensures ∙ ap₂ A.sum (s .before .before .product-of .ensures) (s .before .product-of2 .ensures) in
+    c .root-of .ensures ∙ ap A.root squares
 
 pub v-of-spec : {M : Type 1} → statement M
 v-of-spec =

@@ -49,15 +49,15 @@ unfolding chain.vertical
 returns c =
     let s = c .before .before .before .before .before in
     let t = s .before .before .before .before .before in
-    let both = t .before .before .pre .1 in
-    let slope = t .quotient-of .ensures .0 ∙ ap₂ A.quotient refl (t .before .x-of .ensures .0) in
-    let ratio = s .before .before .product-of .ensures .0 ∙ ap₂ A.product slope (s .before .before .before .vertical-ratio .ensures .0) in
-    let tilted = s .before .product-of2 .ensures .0 ∙ ap₂ A.product ratio (both .tilt .0) in
-    let seen = s .sum-of .ensures .0 ∙ ap₂ A.sum (s .before .before .before .before .height-angle .ensures .0) tilted in
-    let angle = c .before .before .before .before .atan-of .ensures .0 ∙ ap (atan A.answers) (both .r .0) in
-    let hidden = c .before .before .before .product-of3 .ensures .0 ∙ ap₂ A.product slope angle in
-    let left = c .before .before .difference-of .ensures .0 ∙ ap₂ A.difference seen hidden in
-    (c .quotient-of2 .ensures .0 ∙ ap₂ A.quotient left (c .before .pi-answer .ensures .0), c .quotient-of2 .ensures .1)
+    let both = t .before .before .pre in
+    let slope = t .quotient-of .ensures ∙ ap₂ A.quotient refl (t .before .x-of .ensures) in
+    let ratio = s .before .before .product-of .ensures ∙ ap₂ A.product slope (s .before .before .before .vertical-ratio .ensures) in
+    let tilted = s .before .product-of2 .ensures ∙ ap₂ A.product ratio (both .tilt) in
+    let seen = s .sum-of .ensures ∙ ap₂ A.sum (s .before .before .before .before .height-angle .ensures) tilted in
+    let angle = c .before .before .before .before .atan-of .ensures ∙ ap (atan A.answers) (both .r) in
+    let hidden = c .before .before .before .product-of3 .ensures ∙ ap₂ A.product slope angle in
+    let left = c .before .before .difference-of .ensures ∙ ap₂ A.difference seen hidden in
+    c .quotient-of2 .ensures ∙ ap₂ A.quotient left (c .before .pi-answer .ensures)
 
 pub vertical-spec : {M : Type 1} → statement M
 vertical-spec =

@@ -33,10 +33,10 @@ returns : tie.Need-returns
 unfolding chain.vertical-ratio A.constant A.fitting R.constant
 returns c =
     let s = c .before .before .before in
-    let x = s .before .before .before .x-of .ensures .0 in
-    let squares = s .sum-of .ensures .0 ∙ ap₂ A.sum (s .before .before .product-of .ensures .0) (s .before .product-of2 .ensures .0 ∙ ap₂ A.product x x) in
-    let above = c .before .sum-of2 .ensures .0 ∙ ap₂ A.sum squares (c .before .before .exact .ensures .0) in
-    (c .quotient-of .ensures .0 ∙ ap₂ A.quotient above (s .before .before .before .before .pre .1 .product .0), c .quotient-of .ensures .1)
+    let x = s .before .before .before .x-of .ensures in
+    let squares = s .sum-of .ensures ∙ ap₂ A.sum (s .before .before .product-of .ensures) (s .before .product-of2 .ensures ∙ ap₂ A.product x x) in
+    let above = c .before .sum-of2 .ensures ∙ ap₂ A.sum squares (c .before .before .exact .ensures) in
+    c .quotient-of .ensures ∙ ap₂ A.quotient above (s .before .before .before .before .pre .product)
 
 pub vertical-ratio-spec : {M : Type 1} → statement M
 vertical-ratio-spec =

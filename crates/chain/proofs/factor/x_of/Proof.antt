@@ -16,7 +16,7 @@ sum-of-requires c κs = search needs
 
 returns : tie.Need-returns
 unfolding chain.x A.constant A.fitting R.constant
-returns c = (c .sum-of .ensures .0 ∙ ap₂ A.sum (c .before .exact .ensures .0) refl, c .sum-of .ensures .1)
+returns c = c .sum-of .ensures ∙ ap₂ A.sum (c .before .exact .ensures) refl
 
 pub x-of-spec : {M : Type 1} → statement M
 x-of-spec = tie.close (tie.spec exact-requires sum-of-requires returns)

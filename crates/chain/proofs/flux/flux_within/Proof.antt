@@ -57,7 +57,7 @@ flame-height-requires c κs = search needs
 too-low-requires : tie.Need-too-low-requires
 too-low-requires c κs = let s = c .before .before .before in
     let u = within-limits-not-refused _ (s .pre .fuel) (s .pre .area) in
-    (c .before .before .diameter .ensures .0 ∙ u .diameter-given, c .flame-height .ensures .0 ∙ u .flame-height-given)
+    (c .before .before .diameter .ensures ∙ u .diameter-given, c .flame-height .ensures ∙ u .flame-height-given)
 
 returns : tie.Need-returns
 returns c = low-flame _ (c .before .before .before .before .before .pre) (sym (c .before .too-low .ensures) ∙ c .if1 .taken)
@@ -74,21 +74,21 @@ returns-2 c = let f = c .before in
     let e = f .before in
     let s = e .before .before .before .before .before in
     let t : Tested _ = record { limited = s .pre; flame = sym (e .before .too-low .ensures) ∙ e .if1 .left } in
-    absurd (never-refused (f .radiant-flux .result) _ (f .radiant-flux .ensures .0 ∙ accepted _ t .flux-given) (c .match .keys2))
+    absurd (never-refused (f .radiant-flux .result) _ (f .radiant-flux .ensures ∙ accepted _ t .flux-given) (c .match .keys2))
 
 printed-requires : tie.Need-printed-requires
 printed-requires c κs = let f = c .before .before .before in
     let e = f .before in
     let s = e .before .before .before .before .before in
     let t : Tested _ = record { limited = s .pre; flame = sym (e .before .too-low .ensures) ∙ e .if1 .left } in
-    small _ _ t (worked _ _ _ t (f .radiant-flux .ensures .0) (c .before .q .given .1))
+    small _ _ t (worked _ _ _ t (f .radiant-flux .ensures) (c .before .q .given .1))
 
 returns-3 : tie.Need-returns-3
 returns-3 c = let f = c .before .before .before .before in
     let e = f .before in
     let s = e .before .before .before .before .before in
     let t : Tested _ = record { limited = s .pre; flame = sym (e .before .too-low .ensures) ∙ e .if1 .left } in
-    as-shown _ _ _ t (worked _ _ _ t (f .radiant-flux .ensures .0) (c .before .before .q .given .1)) (c .printed .ensures)
+    as-shown _ _ _ t (worked _ _ _ t (f .radiant-flux .ensures) (c .before .before .q .given .1)) (c .printed .ensures)
 
 pub flux-within-spec : {M : Type 1} → statement M
 flux-within-spec =

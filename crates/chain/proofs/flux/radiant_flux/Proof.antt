@@ -45,12 +45,12 @@ unfolding chain.radiant-flux chain.relative-height chain.relative-distance chain
 returns c =
     let s = c .before .before .before .before in
     let start = s .before .before .before .before in
-    let radius = s .before .before .over-of .ensures .0 ∙ ap₂ A.over (start .pre .0 .0) refl in
-    let l = s .before .quotient-of .ensures .0 ∙ ap₂ A.quotient (start .pre .1 .1 .0 .0) radius in
-    let rim = s .exact .ensures .0 ∙ thousandths (start .args .e .distance) (fits (start .pre .1 .1 .1)) in
-    let distance = c .before .before .before .quotient-of2 .ensures .0 ∙ ap₂ A.quotient rim radius in
-    let factor = c .before .factor-of .ensures .0 ∙ ap₂ (chain.factor A.answers (start .args .e .face)) l distance in
-    (c .product-of .ensures .0 ∙ ap₂ A.product (c .before .before .emissive-power .ensures .0) factor, c .product-of .ensures .1)
+    let radius = s .before .before .over-of .ensures ∙ ap₂ A.over (start .pre .0) refl in
+    let l = s .before .quotient-of .ensures ∙ ap₂ A.quotient (start .pre .1 .1 .0) radius in
+    let rim = s .exact .ensures ∙ thousandths (start .args .e .distance) (fits (start .pre .1 .1 .1)) in
+    let distance = c .before .before .before .quotient-of2 .ensures ∙ ap₂ A.quotient rim radius in
+    let factor = c .before .factor-of .ensures ∙ ap₂ (chain.factor A.answers (start .args .e .face)) l distance in
+    c .product-of .ensures ∙ ap₂ A.product (c .before .before .emissive-power .ensures) factor
 
 pub radiant-flux-spec : {M : Type 1} → statement M
 radiant-flux-spec =

@@ -1,11 +1,9 @@
--- `atan_of` meets its contract: pairs in order have passed 61, and the first refusal stays.
+-- `atan_of` meets its contract: the arc tangent of the pair, and a refusal stays.
 -- Assumes nothing.
 use Rattle.pairs.specs.Answers.{answers}
 use Rattle.pairs.specs.Series as series
-use Rattle.pairs.proofs.Agreement.{agreement, admitted-agrees}
-use Rattle.pairs.proofs.Kept.{atan-kept}
 use Rattle.pairs.proofs.Refusals.{atan-refused}
-use Rattle.pairs.proofs.Lifted.{answer-in-order, passed-61, stays-in}
+use Rattle.pairs.proofs.Lifted.{stays-in}
 use borrow.Author.Needs.{needs}
 use Rattle.chain.proofs.lifted.atan_of.Statement.{statement}
 use Rattle.chain.proofs.lifted.atan_of.Tie as tie
@@ -14,16 +12,13 @@ enum-known-a : tie.Need-enum-known-a
 enum-known-a c = search needs
 
 returns : tie.Need-returns
-returns c = (stays-in (series.atan answers) atan-refused (c .before .args .a) (c .match .keys2), c .before .pre)
+returns c = stays-in (series.atan answers) atan-refused (c .before .args .a) (c .match .keys2)
 
 atan-requires : tie.Need-atan-requires
 atan-requires c κs = search needs
 
 returns-2 : tie.Need-returns-2
-returns-2 c = (
-  rw (passed-61 _ _ (c .before .before .before .before .pre) (c .before .before .a .given .1)) (c .atan .ensures),
-  answer-in-order (c .atan .result) (c .atan .ensures) (atan-kept agreement (admitted-agrees _)),
-)
+returns-2 c = rw (c .before .before .a .given .1) (c .atan .ensures)
 
 pub atan-of-spec : {M : Type 1} → statement M
 atan-of-spec =

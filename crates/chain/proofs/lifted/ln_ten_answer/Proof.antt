@@ -1,9 +1,5 @@
--- `ln_ten_answer` meets its contract: the constant is its definition, and so in order.
+-- `ln_ten_answer` meets its contract: the constant is its definition.
 -- Assumes nothing.
-use Rattle.pairs.proofs.Agreement.{agreement}
-use Rattle.pairs.specs.declared.answer.Answer.the-variants.{Is}
-use Rattle.pairs.proofs.Kept.{ln-ten-kept}
-use Rattle.pairs.proofs.Lifted.{answer-in-order}
 use borrow.Author.Needs.{needs}
 use Rattle.chain.proofs.lifted.ln_ten_answer.Statement.{statement}
 use Rattle.chain.proofs.lifted.ln_ten_answer.Tie as tie
@@ -12,7 +8,7 @@ ln-ten-requires : tie.Need-ln-ten-requires
 ln-ten-requires c κs = search needs
 
 returns : tie.Need-returns
-returns c = (c .ln-ten .ensures, answer-in-order (Is (c .ln-ten .result)) (c .ln-ten .ensures) (ln-ten-kept agreement))
+returns c = c .ln-ten .ensures
 
 pub ln-ten-answer-spec : {M : Type 1} → statement M
 ln-ten-answer-spec = tie.close (tie.spec ln-ten-requires returns)

@@ -1,8 +1,7 @@
--- `root_of` meets its contract: pairs in order have passed 61, and the first refusal stays.
+-- `root_of` meets its contract: the root of the pair, and a refusal stays.
 -- Assumes nothing.
 use Rattle.pairs.specs.Answers as A
-use Rattle.pairs.proofs.Agreement.{agreement, admitted-agrees}
-use Rattle.pairs.proofs.Lifted.{answer-in-order, passed-61, stays}
+use Rattle.pairs.proofs.Lifted.{stays, gives-one}
 use borrow.Author.Needs.{needs}
 use Rattle.chain.proofs.lifted.root_of.Statement.{statement}
 use Rattle.chain.proofs.lifted.root_of.Tie as tie
@@ -12,16 +11,14 @@ enum-known-a c = search needs
 
 returns : tie.Need-returns
 unfolding A.root
-returns c = (stays (c .before .args .a) _ (c .match .keys2), c .before .pre)
+returns c = stays (c .before .args .a) _ (c .match .keys2)
 
 root-requires : tie.Need-root-requires
 root-requires c κs = search needs
 
 returns-2 : tie.Need-returns-2
-returns-2 c = (
-  rw (passed-61 _ _ (c .before .before .before .before .pre) (c .before .before .a .given .1)) (c .root .ensures),
-  answer-in-order (c .root .result) (c .root .ensures) (agreement .root (admitted-agrees _)),
-)
+unfolding A.root
+returns-2 c = gives-one A.root-of _ _ _ (c .before .before .a .given .1) (c .root .ensures)
 
 pub root-of-spec : {M : Type 1} → statement M
 root-of-spec =

@@ -1,8 +1,7 @@
--- `sum_of` meets its contract: pairs in order have passed 61, and the first refusal stays.
+-- `sum_of` meets its contract: the sum of the pairs, and the first refusal stays.
 -- Assumes nothing.
 use Rattle.pairs.specs.Answers as A
-use Rattle.pairs.proofs.Agreement.{agreement, admitted-agrees}
-use Rattle.pairs.proofs.Lifted.{answer-in-order, passed-61, stays, stays-second}
+use Rattle.pairs.proofs.Lifted.{stays, stays-second, gives-two}
 use borrow.Author.Needs.{needs}
 use Rattle.chain.proofs.lifted.sum_of.Statement.{statement}
 use Rattle.chain.proofs.lifted.sum_of.Tie as tie
@@ -12,7 +11,7 @@ enum-known-a c = search needs
 
 returns : tie.Need-returns
 unfolding A.sum
-returns c = (stays (c .before .args .a) _ (c .match .keys2), c .before .pre .0)
+returns c = stays (c .before .args .a) _ (c .match .keys2)
 
 enum-known-b : tie.Need-enum-known-b
 enum-known-b c = search needs
@@ -20,25 +19,16 @@ enum-known-b c = search needs
 returns-2 : tie.Need-returns-2
 unfolding A.sum
 returns-2 c = let k = c .before .before in
-    (stays-second (k .before .before .args .a) (k .before .before .args .b) _ _ (k .a .given .1) (c .match2 .keys2), k .before .before .pre .1)
+    stays-second (k .before .before .args .a) (k .before .before .args .b) _ _ (k .a .given .1) (c .match2 .keys2)
 
 sum-requires : tie.Need-sum-requires
 sum-requires c κs = search needs
 
 returns-3 : tie.Need-returns-3
-returns-3 c = let s = c .before .before .before .before .before .before .before in (
-  rw (passed-61 _ _ (s .pre .0) (c .before .before .before .before .before .a .given .1), passed-61 _ _ (s .pre .1) (c .before .before .b .given .1))
-      (c .sum .ensures),
-  answer-in-order (c .sum .result) (c .sum .ensures) (agreement .sum (admitted-agrees _) (admitted-agrees _)),
-)
+unfolding A.sum
+returns-3 c =
+    gives-two A.sum-of _ _ _ _ _ (c .before .before .before .before .before .a .given .1) (c .before .before .b .given .1) (c .sum .ensures)
 
 pub sum-of-spec : {M : Type 1} → statement M
 sum-of-spec =
-    tie.close
-    (tie.spec
-    enum-known-a
-    returns
-    enum-known-b
-    returns-2
-    sum-requires
-    returns-3)
+    tie.close (tie.spec enum-known-a returns enum-known-b returns-2 sum-requires returns-3)

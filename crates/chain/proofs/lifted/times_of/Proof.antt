@@ -1,8 +1,8 @@
--- `times_of` meets its contract: pairs in order have passed 61, and the first refusal stays.
+-- `times_of` meets its contract: the pair times the number, and a refusal stays.
 -- Assumes nothing.
+use Rattle.pairs.specs.declared.answer.Pair.{Pair}
 use Rattle.pairs.specs.Answers as A
-use Rattle.pairs.proofs.Agreement.{agreement, admitted-agrees}
-use Rattle.pairs.proofs.Lifted.{answer-in-order, passed-61, stays}
+use Rattle.pairs.proofs.Lifted.{stays, gives-one}
 use borrow.Author.Needs.{needs}
 use Rattle.chain.proofs.lifted.times_of.Statement.{statement}
 use Rattle.chain.proofs.lifted.times_of.Tie as tie
@@ -12,16 +12,14 @@ enum-known-a c = search needs
 
 returns : tie.Need-returns
 unfolding A.times
-returns c = (stays (c .before .args .a) _ (c .match .keys2), c .before .pre)
+returns c = stays (c .before .args .a) _ (c .match .keys2)
 
 times-requires : tie.Need-times-requires
 times-requires c κs = search needs
 
 returns-2 : tie.Need-returns-2
-returns-2 c = (
-  rw (passed-61 _ _ (c .before .before .before .before .pre) (c .before .before .a .given .1)) (c .times .ensures),
-  answer-in-order (c .times .result) (c .times .ensures) (agreement .times (admitted-agrees _) _),
-)
+unfolding A.times
+returns-2 c = gives-one (λ (p : Pair). A.times-of p (c .before .before .before .before .args .n)) _ _ _ (c .before .before .a .given .1) (c .times .ensures)
 
 pub times-of-spec : {M : Type 1} → statement M
 times-of-spec =

@@ -38,9 +38,9 @@ returns : tie.Need-returns
 unfolding chain.diameter
 returns c =
     let s = c .before .before .before .before .before in
-    let area = c .before .before .before .exact .ensures .0 ∙ pool-area (s .args .e .area) (s .pre) in
-    let square = c .before .quotient-of .ensures .0 ∙ ap₂ A.quotient area (c .before .before .pi-answer .ensures .0) in
-    (c .root-of .ensures .0 ∙ ap A.root square, c .root-of .ensures .1)
+    let area = c .before .before .before .exact .ensures ∙ pool-area (s .args .e .area) (s .pre) in
+    let square = c .before .quotient-of .ensures ∙ ap₂ A.quotient area (c .before .before .pi-answer .ensures) in
+    c .root-of .ensures ∙ ap A.root square
 
 pub diameter-spec : {M : Type 1} → statement M
 diameter-spec =

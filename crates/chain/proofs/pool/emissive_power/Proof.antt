@@ -21,14 +21,14 @@ emissive-power-1-requires c κs = search needs
 
 returns : tie.Need-returns
 unfolding chain.emissive-power
-returns c = (c .emissive-power-1 .ensures .0 ∙ picked _ true (eq-eqb _ 1 (c .before .if1 .taken)), c .emissive-power-1 .ensures .1)
+returns c = c .emissive-power-1 .ensures ∙ picked _ true (eq-eqb _ 1 (c .before .if1 .taken))
 
 emissive-power-2-requires : tie.Need-emissive-power-2-requires
 emissive-power-2-requires c κs = search needs
 
 returns-2 : tie.Need-returns-2
 unfolding chain.emissive-power
-returns-2 c = (c .emissive-power-2 .ensures .0 ∙ picked _ false (ne-eqb _ 1 (c .before .if1 .left)), c .emissive-power-2 .ensures .1)
+returns-2 c = c .emissive-power-2 .ensures ∙ picked _ false (ne-eqb _ 1 (c .before .if1 .left))
 
 pub emissive-power-spec : {M : Type 1} → statement M
 emissive-power-spec =

@@ -31,10 +31,10 @@ returns : tie.Need-returns
 unfolding chain.emissive-power-1 chain.decline A.constant A.fitting R.constant
 returns c =
     let s = c .before .before .before .before in
-    let declining = s .product-of .ensures .0 ∙ ap₂ A.product (s .before .exact .ensures .0) (s .before .before .pre .0) in
-    let decline = c .before .before .product-of2 .ensures .0 ∙ ap₂ A.product declining (c .before .before .before .ln-ten-answer .ensures .0) in
-    let left = c .before .exp-neg-of .ensures .0 ∙ ap (exp-neg A.answers) decline in
-    (c .times-of .ensures .0 ∙ ap₂ A.times left refl, c .times-of .ensures .1)
+    let declining = s .product-of .ensures ∙ ap₂ A.product (s .before .exact .ensures) (s .before .before .pre) in
+    let decline = c .before .before .product-of2 .ensures ∙ ap₂ A.product declining (c .before .before .before .ln-ten-answer .ensures) in
+    let left = c .before .exp-neg-of .ensures ∙ ap (exp-neg A.answers) decline in
+    c .times-of .ensures ∙ ap₂ A.times left refl
 
 pub emissive-power-1-spec : {M : Type 1} → statement M
 emissive-power-1-spec =

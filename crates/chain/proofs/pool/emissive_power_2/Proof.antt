@@ -34,10 +34,10 @@ unfolding chain.emissive-power-2 chain.radiant-fraction A.constant A.fitting R.c
 returns c =
     let s = c .before .before .before in
     let start = s .before .before .before .before in
-    let loss = s .before .product-of .ensures .0 ∙ ap₂ A.product (s .before .before .exact2 .ensures .0) (start .pre .0 .0) in
-    let fraction = s .difference-of .ensures .0 ∙ ap₂ A.difference (s .before .before .before .exact .ensures .0) loss in
-    let radiated = c .before .before .product-of2 .ensures .0 ∙ ap₂ A.product fraction (start .pre .1 .0 .0) in
-    (c .quotient-of .ensures .0 ∙ ap₂ A.quotient radiated (c .before .flame-surface .ensures .0), c .quotient-of .ensures .1)
+    let loss = s .before .product-of .ensures ∙ ap₂ A.product (s .before .before .exact2 .ensures) (start .pre .0) in
+    let fraction = s .difference-of .ensures ∙ ap₂ A.difference (s .before .before .before .exact .ensures) loss in
+    let radiated = c .before .before .product-of2 .ensures ∙ ap₂ A.product fraction (start .pre .1 .0) in
+    c .quotient-of .ensures ∙ ap₂ A.quotient radiated (c .before .flame-surface .ensures)
 
 pub emissive-power-2-spec : {M : Type 1} → statement M
 emissive-power-2-spec =

@@ -34,11 +34,11 @@ unfolding chain.flame-height chain.fifth-root-of-heat A.constant A.fitting R.con
 returns c =
     let s = c .before .before .before in
     let start = s .before .before .before .before in
-    let root = s .before .before .before .fifth-root-of .ensures .0 ∙ ap A.fifth-root (start .pre .1 .0) in
-    let square = s .before .product-of .ensures .0 ∙ ap₂ A.product root root in
-    let plume = s .product-of2 .ensures .0 ∙ ap₂ A.product (s .before .before .exact .ensures .0) square in
-    let base = c .before .product-of3 .ensures .0 ∙ ap₂ A.product (c .before .before .exact2 .ensures .0) (start .pre .0 .0) in
-    (c .difference-of .ensures .0 ∙ ap₂ A.difference plume base, c .difference-of .ensures .1)
+    let root = s .before .before .before .fifth-root-of .ensures ∙ ap A.fifth-root (start .pre .1) in
+    let square = s .before .product-of .ensures ∙ ap₂ A.product root root in
+    let plume = s .product-of2 .ensures ∙ ap₂ A.product (s .before .before .exact .ensures) square in
+    let base = c .before .product-of3 .ensures ∙ ap₂ A.product (c .before .before .exact2 .ensures) (start .pre .0) in
+    c .difference-of .ensures ∙ ap₂ A.difference plume base
 
 pub flame-height-spec : {M : Type 1} → statement M
 flame-height-spec =

@@ -58,9 +58,9 @@ returns c =
     let s = c .before .before .before .before in
     let start = s .before .before .before .before in
     let e = start .args .e in
-    let supply = s .exact .ensures .0 ∙ thousandths (e .rate * e .heat * e .area) (fits (e .rate) (e .heat) (e .area) (start .pre .0 .0) (start .pre .0 .1) (start .pre .0 .2)) in
-    let absorbed = c .before .difference-of .ensures .0 ∙ ap₂ A.difference (c .before .before .before .exact2 .ensures .0) (c .before .before .unabsorbed .ensures .0) in
-    (c .product-of .ensures .0 ∙ ap₂ A.product supply absorbed, c .product-of .ensures .1)
+    let supply = s .exact .ensures ∙ thousandths (e .rate * e .heat * e .area) (fits (e .rate) (e .heat) (e .area) (start .pre .0 .0) (start .pre .0 .1) (start .pre .0 .2)) in
+    let absorbed = c .before .difference-of .ensures ∙ ap₂ A.difference (c .before .before .before .exact2 .ensures) (c .before .before .unabsorbed .ensures) in
+    c .product-of .ensures ∙ ap₂ A.product supply absorbed
 
 pub heat-release-spec : {M : Type 1} → statement M
 heat-release-spec =

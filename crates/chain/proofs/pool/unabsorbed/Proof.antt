@@ -23,9 +23,9 @@ exp-neg-of-requires c κs = search needs
 returns : tie.Need-returns
 unfolding chain.unabsorbed chain.optical-depth
 returns c =
-    let scaled = c .before .before .times-of .ensures .0 ∙ ap₂ A.times (c .before .before .before .before .pre .0) refl in
-    let depth = c .before .over-of .ensures .0 ∙ ap₂ A.over scaled refl in
-    (c .exp-neg-of .ensures .0 ∙ ap (exp-neg A.answers) depth, c .exp-neg-of .ensures .1)
+    let scaled = c .before .before .times-of .ensures ∙ ap₂ A.times (c .before .before .before .before .pre) refl in
+    let depth = c .before .over-of .ensures ∙ ap₂ A.over scaled refl in
+    c .exp-neg-of .ensures ∙ ap (exp-neg A.answers) depth
 
 pub unabsorbed-spec : {M : Type 1} → statement M
 unabsorbed-spec =

@@ -1,6 +1,6 @@
 -- `arc` meets its contract: 61, then 63, then the series, of which no step is refused.
 -- Assumes nothing.
-use mathlib.Core.Path.{_≡_, sym}
+use mathlib.Core.Path.{_≡_, sym, ap, _∙_}
 use Prim.Native.Nat.{_≤_}
 use native.Mathlib.Omega.{arith}
 use Rattle.pairs.specs.declared.answer.Pair.{Pair}
@@ -8,7 +8,6 @@ use Rattle.pairs.specs.Rounded.{U, rounded}
 use Rattle.pairs.specs.Figures.{given}
 use Rattle.pairs.specs.Answers.{arc-of}
 use Rattle.pairs.specs.Series.{arc}
-use Rattle.pairs.proofs.Turned.{ordered}
 use Rattle.pairs.proofs.Terms.{arc-given}
 use Rattle.pairs.proofs.Refusals.{arc-61, arc-63}
 use borrow.Author.Needs.{needs}
@@ -16,7 +15,7 @@ use Rattle.pairs.proofs.arc.arc.Statement.{statement}
 use Rattle.pairs.proofs.arc.arc.Tie as tie
 
 answered : (t r : Pair) → t .low ≤ t .high → t .high ≤ U → r ≡ arc rounded t → given r ≡ arc-of t
-answered t r o h e = rw (e, ordered t o) (sym (arc-given t (omega arith)))
+answered t r o h e = ap given e ∙ sym (arc-given t (record { ordered = o; high = h }))
 
 returns : tie.Need-returns
 returns c = arc-61 _ (omega arith)

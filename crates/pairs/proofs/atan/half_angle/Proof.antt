@@ -1,45 +1,37 @@
 -- `half_angle` meets its contract: the steps' contracts in a row, and a refusal stays.
 -- Assumes nothing.
-use mathlib.Core.Path.{_≡_, sym, ap, _∙_}
-use Prim.Native.Nat.{_≤_}
+use mathlib.Core.Path.{_≡_, ap, _∙_}
 use Rattle.pairs.specs.declared.answer.Pair.{Pair}
 use Rattle.pairs.specs.declared.answer.Answer.{Answer}
 use Rattle.pairs.specs.declared.answer.Answer.the-variants.{Is}
 use Rattle.pairs.specs.Figures.{Figures, figures, given}
-use Rattle.pairs.specs.Private.{in-order}
 use Rattle.pairs.specs.Answers as A
 use Rattle.pairs.specs.Answers.{answers, product-of}
 use Rattle.pairs.specs.Series.{one, half-angle}
-use Rattle.pairs.proofs.Agreement.{agreement, admitted-agrees}
-use Rattle.pairs.proofs.Lifted.{answer-in-order, passed-61, stays}
+use Rattle.pairs.proofs.Lifted.{stays}
 use borrow.Author.Needs.{needs}
 use Rattle.pairs.proofs.atan.half_angle.Statement.{statement}
 use Rattle.pairs.proofs.atan.half_angle.Tie as tie
 
-pair-in-order : (a : Answer) (t : Pair) → in-order a → a ≡ Is t → t .low ≤ t .high
-pair-in-order a t o e = rw e at o
-
 steps :
-    (a : Answer) (t : Pair) (s p r q : Figures) → in-order a → a ≡ Is t → s ≡ product-of t t → p ≡ A.sum (one answers) s → r ≡ A.root p
+    (a : Answer) (t : Pair) (s p r q : Figures) → a ≡ Is t → s ≡ product-of t t → p ≡ A.sum (one answers) s → r ≡ A.root p
     → q ≡ A.sum (one answers) r → A.quotient (given t) q ≡ half-angle answers (figures a)
-unfolding half-angle
-steps a t s p r q o e f g h k =
-    let same : figures a ≡ given t = ap figures e in
-    let square : A.product (figures a) (figures a) ≡ s = rw (passed-61 a t o e) (sym f) in
-    rw square (rw same (cc))
+unfolding half-angle A.product
+steps a t s p r q e f g h k =
+    rw e (ap (A.quotient (given t)) (k ∙ ap (A.sum (one answers)) (h ∙ ap A.root (g ∙ ap (A.sum (one answers)) f))))
 
 enum-known-a : tie.Need-enum-known-a
 enum-known-a c = search needs
 
 returns : tie.Need-returns
 unfolding half-angle A.quotient
-returns c = (stays (c .before .args .a) _ (c .match .keys2), c .before .pre)
+returns c = stays (c .before .args .a) _ (c .match .keys2)
 
 product-requires : tie.Need-product-requires
 product-requires c κs = search needs
 
 one-more-requires : tie.Need-one-more-requires
-one-more-requires c κs = answer-in-order (c .product .result) (c .product .ensures) (agreement .product (admitted-agrees _) (admitted-agrees _))
+one-more-requires c κs = search needs
 
 root-of-requires : tie.Need-root-of-requires
 root-of-requires c κs = search needs
@@ -48,16 +40,13 @@ one-more-requires-2 : tie.Need-one-more-requires-2
 one-more-requires-2 c κs = search needs
 
 over-answer-requires : tie.Need-over-answer-requires
-over-answer-requires c κs = let d = c .before .before .before .before .before in
-    (pair-in-order _ _ (d .before .before .pre) (d .a .given .1), c .one-more2 .ensures .1)
+over-answer-requires c κs = search needs
 
 returns-2 : tie.Need-returns-2
-returns-2 c = let d = c .before .before .before .before in (
-  c .over-answer .ensures .0
-      ∙ steps _ _ _ _ _ _ (d .before .before .before .before .pre) (d .before .before .a .given .1) (d .product .ensures)
-      (c .before .before .before .one-more .ensures .0) (c .before .before .root-of .ensures .0) (c .before .one-more2 .ensures .0),
-  c .over-answer .ensures .1,
-)
+returns-2 c = let d = c .before .before .before .before in
+    c .over-answer .ensures
+    ∙ steps _ _ _ _ _ _ (d .before .before .a .given .1) (d .product .ensures) (c .before .before .before .one-more .ensures)
+    (c .before .before .root-of .ensures) (c .before .one-more2 .ensures)
 
 pub half-angle-spec : {M : Type 1} → statement M
 half-angle-spec =

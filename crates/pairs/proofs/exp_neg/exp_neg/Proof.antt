@@ -1,25 +1,21 @@
 -- `exp_neg` meets its contract: 61, then 63, then the series, of which no step is refused, and eight squares.
--- The loop holds what is left of the squares, on an answer in order. Assumes nothing.
-use mathlib.Core.Path.{_≡_, refl, sym, ap, _∙_}
-use Prim.Native.Nat.{ℕ, suc, _+_, _*_, _-_, _/_, _≤_, _<_}
+-- The loop holds what is left of the squares. Assumes nothing.
+use mathlib.Core.Path.{_≡_, refl, sym, ap, subst, _∙_}
+use Prim.Native.Nat.{ℕ, suc, _+_, _*_, _-_, _/_, _^_, _≤_, _<_}
 use native.Mathlib.Omega.{arith}
-use borrow.Author.Tests.{lt-leb}
+use borrow.Author.Tests.{le-ltb, lt-leb}
 use Rattle.pairs.specs.declared.answer.Pair.{Pair}
-use Rattle.pairs.specs.declared.answer.Answer.the-variants.{Is}
 use Rattle.pairs.specs.Rounded as R
 use Rattle.pairs.specs.Rounded.{U, rounded, ends, up}
 use Rattle.pairs.specs.Figures.{Figures, figures, given}
-use Rattle.pairs.specs.Private.{in-order}
 use Rattle.pairs.specs.Answers as A
-use Rattle.pairs.specs.Answers.{answers, admitted, exp-neg-of}
+use Rattle.pairs.specs.Answers.{answers, exp-neg-of}
 use Rattle.pairs.specs.Series.{alternating, exp-term, squared, exp-neg}
-use Rattle.pairs.proofs.Kept.{alternating-kept, exp-term-kept}
-use Rattle.pairs.proofs.Agreement.{agreement, admitted-agrees, fitting-given}
-use Rattle.pairs.proofs.Turned.{ordered}
+use Rattle.pairs.proofs.Turned.{over-turned}
 use Rattle.pairs.proofs.Terms.{Within, exp-given}
 use Rattle.pairs.proofs.Turns.{over-is}
 use Rattle.pairs.proofs.Refusals.{exp-61, exp-63}
-use Rattle.pairs.proofs.Lifted.{answer-in-order}
+use borrow.Author.Needs.{needs}
 use Rattle.pairs.proofs.exp_neg.exp_neg.Statement.{statement}
 use Rattle.pairs.proofs.exp_neg.exp_neg.Tie as tie
 
@@ -32,26 +28,19 @@ module _ (y : Pair) (high : ℕ) (o : y .low ≤ y .high) (small : y .high < 256
   unfolding up
   within = omega arith
 
-  z-in-order : y .low / 256 ≤ high
-  unfolding up
-  z-in-order = omega arith
-
-  over-256 : A.over (A.below-256 (admitted y)) 256 ≡ given z
-  unfolding A.below-256 A.over
+  over-256 : A.over (A.below-256 (given y)) 256 ≡ given z
+  unfolding A.below-256 A.below-256-of A.over
   over-256 =
       let e : z ≡ R.over y 256 = over-is y z 256 refl h in
-      rw (ordered y o, lt-leb (256 * U) (y .high) small, ← e) (fitting-given z (omega (arith, within)))
+      let fits : (R.over y 256) .high < 2 ^ 64 = subst (λ (p : Pair). p .high < 2 ^ 64) e (small-enough (within .high)) in
+      rw (le-ltb (y .high) (y .low) o, lt-leb (256 * U) (y .high) small) (sym (over-turned y 256 .is o refl fits)) ∙ ap given (sym e)
+    where
+      small-enough : {n : ℕ} → n ≤ U → n < 2 ^ 64
+      small-enough l = omega arith
 
-  module _ (r : Pair) (e : r ≡ alternating rounded (exp-term rounded z)) where
-    series-is : given r ≡ alternating answers (exp-term answers (admitted z))
-    series-is = rw (e, ordered z z-in-order) (sym (exp-given z within))
-
-    series-in-order : r .low ≤ r .high
-    series-in-order = answer-in-order (Is r) series-is (alternating-kept agreement _ _ (exp-term-kept agreement (admitted-agrees z)))
-
-    all-squares : squared answers 8 (given r) ≡ exp-neg-of y
-    unfolding exp-neg
-    all-squares = rw over-256 (ap (squared answers 8) (rw (ordered z z-in-order) at series-is))
+  all-squares : (r : Pair) → r ≡ alternating rounded (exp-term rounded z) → squared answers 8 (given r) ≡ exp-neg-of y
+  unfolding exp-neg
+  all-squares r e = rw over-256 (ap (squared answers 8) (ap given e ∙ sym (exp-given z within)))
 
 -- k squares are made, and one more
 again : (k : ℕ) (x y z : Figures) → k < 8 → y ≡ A.product x x → squared answers (8 - k) x ≡ z → squared answers (8 - (k + 1)) y ≡ z
@@ -64,7 +53,7 @@ finished k x z e s = rw e at s
 
 abbrev Inv-loop : tie.InvT-loop
 Inv-loop power₀ counter₀ power counter =
-    (counter ≤ 8) × in-order power × (squared answers (8 - counter) (figures power) ≡ squared answers 8 (figures power₀))
+    (counter ≤ 8) × (squared answers (8 - counter) (figures power) ≡ squared answers 8 (figures power₀))
 
 abbrev μ-loop : tie.MeasureT-loop
 μ-loop power₀ counter₀ power counter =
@@ -81,13 +70,13 @@ divided-up-requires c κs = omega arith
 
 alternating-exp-requires : tie.Need-alternating-exp-requires Inv-loop μ-loop
 alternating-exp-requires c κs = let y = c .before .before .before .before .before .before .args .y in
-    (z-in-order y _ (omega arith) (omega arith) (c .divided-up .ensures), within y _ (omega arith) (omega arith) (c .divided-up .ensures) .high)
+    let w = within y _ (omega arith) (omega arith) (c .divided-up .ensures) in (w .ordered, w .high)
 
 loop-holds : tie.Need-loop-holds Inv-loop μ-loop
-loop-holds c = (omega arith, series-in-order _ _ (omega arith) (omega arith) (c .before .divided-up .ensures) _ (c .alternating-exp .ensures), refl)
+loop-holds c = (omega arith, refl)
 
 square-requires : tie.Need-square-requires Inv-loop μ-loop
-square-requires c κs = c .before .loop .inv .1
+square-requires c κs = search needs
 
 add-counter : tie.Need-add-counter Inv-loop μ-loop
 add-counter c = omega arith
@@ -96,11 +85,11 @@ loop-less : tie.Need-loop-less Inv-loop μ-loop
 loop-less c = omega arith
 
 loop-again : tie.Need-loop-again Inv-loop μ-loop
-loop-again c = (omega arith, c .square .ensures .1, again _ _ _ _ (omega arith) (c .square .ensures .0) (c .before .before .loop .inv .2))
+loop-again c = (omega arith, again _ _ _ _ (omega arith) (c .square .ensures) (c .before .before .loop .inv .1))
 
 returns-3 : tie.Need-returns-3 Inv-loop μ-loop
 returns-3 c = let d = c .before .before in
-    finished _ _ _ (omega arith) (c .before .loop .inv .2)
+    finished _ _ _ (omega arith) (c .before .loop .inv .1)
     ∙ all-squares _ _ (omega arith) (omega arith) (d .before .divided-up .ensures) _ (d .alternating-exp .ensures)
 
 pub exp-neg-spec : {M : Type 1} → statement M

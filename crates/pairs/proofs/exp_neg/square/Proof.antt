@@ -1,8 +1,7 @@
--- `square` meets its contract: a pair in order has passed 61, and a refusal stays.
+-- `square` meets its contract: the square of the pair, and a refusal stays.
 -- Assumes nothing.
 use Rattle.pairs.specs.Answers as A
-use Rattle.pairs.proofs.Agreement.{agreement, admitted-agrees}
-use Rattle.pairs.proofs.Lifted.{answer-in-order, passed-61, stays}
+use Rattle.pairs.proofs.Lifted.{stays, gives-two}
 use borrow.Author.Needs.{needs}
 use Rattle.pairs.proofs.exp_neg.square.Statement.{statement}
 use Rattle.pairs.proofs.exp_neg.square.Tie as tie
@@ -12,16 +11,14 @@ enum-known-a c = search needs
 
 returns : tie.Need-returns
 unfolding A.product
-returns c = (stays (c .before .args .a) _ (c .match .keys2), c .before .pre)
+returns c = stays (c .before .args .a) _ (c .match .keys2)
 
 product-requires : tie.Need-product-requires
 product-requires c κs = search needs
 
 returns-2 : tie.Need-returns-2
-returns-2 c = (
-  rw (passed-61 _ _ (c .before .before .before .before .pre) (c .before .before .a .given .1)) (c .product .ensures),
-  answer-in-order (c .product .result) (c .product .ensures) (agreement .product (admitted-agrees _) (admitted-agrees _)),
-)
+unfolding A.product
+returns-2 c = let a = c .before .before .a .given .1 in gives-two A.product-of _ _ _ _ _ a a (c .product .ensures)
 
 pub square-spec : {M : Type 1} → statement M
 square-spec = tie.close (tie.spec enum-known-a returns product-requires returns-2)

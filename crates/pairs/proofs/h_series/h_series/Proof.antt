@@ -1,6 +1,6 @@
 -- `h_series` meets its contract: 61, then 63, then the series, of which no step is refused.
 -- Assumes nothing.
-use mathlib.Core.Path.{_≡_, sym}
+use mathlib.Core.Path.{_≡_, sym, ap, _∙_}
 use Prim.Native.Nat.{_≤_}
 use native.Mathlib.Omega.{arith}
 use Rattle.pairs.specs.declared.answer.Pair.{Pair}
@@ -8,7 +8,6 @@ use Rattle.pairs.specs.Rounded.{rounded}
 use Rattle.pairs.specs.Figures.{given}
 use Rattle.pairs.specs.Answers.{h-series-of}
 use Rattle.pairs.specs.Series.{h-series}
-use Rattle.pairs.proofs.Turned.{ordered}
 use Rattle.pairs.proofs.Terms.{h-series-given}
 use Rattle.pairs.proofs.Refusals.{h-61, h-63}
 use borrow.Author.Needs.{needs}
@@ -16,7 +15,7 @@ use Rattle.pairs.proofs.h_series.h_series.Statement.{statement}
 use Rattle.pairs.proofs.h_series.h_series.Tie as tie
 
 answered : (t r : Pair) → t .low ≤ t .high → t .high ≤ 333_333_333_334 → r ≡ h-series rounded t → given r ≡ h-series-of t
-answered t r o h e = rw (e, ordered t o) (sym (h-series-given t (omega arith) h))
+answered t r o h e = ap given e ∙ sym (h-series-given t (omega arith) h)
 
 returns : tie.Need-returns
 returns c = h-61 _ (omega arith)
