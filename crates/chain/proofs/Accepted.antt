@@ -11,13 +11,13 @@ use Rattle.pairs.specs.Figures.{Figures, given}
 use Rattle.pairs.specs.Answers.{answers}
 use Rattle.pairs.proofs.Agreement.{agreed, agreement}
 use Rattle.chain.specs.declared.enquiry.Enquiry.{Enquiry}
-use Rattle.chain.specs.Chain.{diameter, unabsorbed, heat-release, flame-height, emissive-power, radiant-flux}
+use Rattle.chain.specs.Chain.{diameter-of, unabsorbed-of, heat-release-of, flame-height-of, emissive-power-of, emissive-power, radiant-flux}
 use Rattle.chain.specs.Flux.{outside, fuel-within, flame-too-low, stage-too-large, low-of, high-of, note-of, flux-of, Shown}
 use Rattle.chain.proofs.Bounds as B
 use Rattle.chain.proofs.Bounds.{Bound, bound}
 use Rattle.chain.proofs.Inside.{Inside}
 use Rattle.chain.proofs.Within.{Held, within}
-use Rattle.chain.proofs.Steps.{diameter-kept, unabsorbed-kept, heat-release-kept, flame-height-kept, radiant-flux-kept, choice-kept}
+use Rattle.chain.proofs.Steps.{diameter-of-kept, unabsorbed-of-kept, heat-release-of-kept, flame-height-of-kept, radiant-flux-kept, choice-kept}
 use Rattle.chain.proofs.Boxes.{known}
 use Rattle.chain.proofs.Configuration.{vertical-bound, horizontal-bound, factor-bound, factor-held}
 use Rattle.chain.proofs.Flame.{emissive-bound-1, emissive-bound-2, Area}
@@ -26,10 +26,10 @@ use Rattle.chain.proofs.Limits.{Tested, between, fuel, past-tests, acce
 
 -- ---- inside the limits of 11 and 12
 pub record Unrefused (E : Enquiry) : Type 0 where
-  pub diameter-given : diameter answers E ≡ given (diameter rounded E)
-  pub unabsorbed-given : unabsorbed answers E ≡ given (unabsorbed rounded E)
-  pub heat-release-given : heat-release answers E ≡ given (heat-release rounded E)
-  pub flame-height-given : flame-height answers E ≡ given (flame-height rounded E)
+  pub diameter-given : diameter-of answers E ≡ given (diameter-of rounded E)
+  pub unabsorbed-given : unabsorbed-of answers E ≡ given (unabsorbed-of rounded E)
+  pub heat-release-given : heat-release-of answers E ≡ given (heat-release-of rounded E)
+  pub flame-height-given : flame-height-of answers E ≡ given (flame-height-of rounded E)
 
 area-of : (E : Enquiry) → not (fuel-within E) ≡ false → outside 100 190_000 (E .area) ≡ false → Area E
 area-of E f a = let w = between 100 190_000 (E .area) a in areas E (w .low) (w .high) (fuel E f)
@@ -38,10 +38,10 @@ pub within-limits-not-refused : (E : Enquiry) → not (fuel-within E) ≡ false 
 within-limits-not-refused E f a =
     let s = area-of E f a in
     record {
-      diameter-given = agreed (diameter-kept agreement E) (s .diameter .given);
-      unabsorbed-given = agreed (unabsorbed-kept agreement E) (s .unabsorbed .given);
-      heat-release-given = agreed (heat-release-kept agreement E) (s .heat-release);
-      flame-height-given = agreed (flame-height-kept agreement E) (s .flame .not-refused);
+      diameter-given = agreed (diameter-of-kept agreement E) (s .diameter .given);
+      unabsorbed-given = agreed (unabsorbed-of-kept agreement E) (s .unabsorbed .given);
+      heat-release-given = agreed (heat-release-of-kept agreement E) (s .heat-release);
+      flame-height-given = agreed (flame-height-of-kept agreement E) (s .flame .not-refused);
     }
 
 -- ---- where no number from 11 to 16 applies
@@ -55,10 +55,10 @@ flux-bound method face = B.product (emissive-bound method) (factor-bound face)
 not-less : (m n : ℕ) → ltb m n ≡ false → n ≤ m
 not-less m n e = le-of-suc-le-suc (lt-of-not-le (λ h. subst T e (le→leb (suc m) n h)))
 
-high-enough : (E : Enquiry) → Unrefused E → flame-too-low E ≡ false → (diameter answers E) .pair .high ≤ 4 * (flame-height answers E) .pair .low
+high-enough : (E : Enquiry) → Unrefused E → flame-too-low E ≡ false → (diameter-of answers E) .pair .high ≤ 4 * (flame-height-of answers E) .pair .low
 unfolding flame-too-low
 high-enough E h e =
-    rw (h .diameter-given, h .flame-height-given) (not-less (4 * (flame-height rounded E) .low) ((diameter rounded E) .high) e)
+    rw (h .diameter-given, h .flame-height-given) (not-less (4 * (flame-height-of rounded E) .low) ((diameter-of rounded E) .high) e)
 
 -- How wide q is at most, in trillionths of a kW/m², by method and face.
 unfoldable pub width-of : ℕ → ℕ → ℕ
@@ -88,7 +88,7 @@ unfolding width-of flux-bound emissive-bound factor-bound B.product bound up
 widths = (refl, refl, refl, refl, refl, refl)
 
 flux-held : (E : Enquiry) → Tested E → Held (radiant-flux answers E) (flux-bound (E .method) (E .face))
-unfolding radiant-flux emissive-power emissive-bound flux-bound
+unfolding radiant-flux emissive-power-of emissive-power emissive-bound flux-bound
 flux-held E t =
     let w = t .limited in
     let s = area-of E (w .fuel) (w .area) in

@@ -9,11 +9,11 @@ use lib.Ieee.Fits.{and-l, and-r}
 use Rattle.pairs.specs.Rounded.{rounded}
 use Rattle.pairs.specs.Answers.{answers}
 use Rattle.chain.specs.declared.enquiry.Enquiry.{Enquiry}
-use Rattle.chain.specs.Chain.{diameter, flame-height}
+use Rattle.chain.specs.Chain.{diameter-of, flame-height-of}
 use Rattle.chain.specs.Flux.{outside, fuel-within, flame-too-low, flux-of, Shown}
 use Rattle.chain.proofs.Bounds.{bounds}
 use Rattle.chain.proofs.Within.{within}
-use Rattle.chain.proofs.Steps.{diameter-kept, flame-height-kept}
+use Rattle.chain.proofs.Steps.{diameter-of-kept, flame-height-of-kept}
 use Rattle.chain.proofs.Opened.{opened}
 use Rattle.chain.proofs.Limits.{Tested}
 use Rattle.chain.proofs.Accepted.{within-limits-not-refused, shown}
@@ -22,7 +22,7 @@ abbrev pub example : ℕ → ℕ → Enquiry
 example method face =
     record { rate = 39; absorption = 350; heat = 432; area = 7_854; method = method; distance = 15_000; face = face }
 
-safe : (method face : ℕ) → T ((diameter bounds (example method face)) .safe && (flame-height bounds (example method face)) .safe && leb ((diameter bounds (example method face)) .most) (4 * (flame-height bounds (example method face)) .least))
+safe : (method face : ℕ) → T ((diameter-of bounds (example method face)) .safe && (flame-height-of bounds (example method face)) .safe && leb ((diameter-of bounds (example method face)) .most) (4 * (flame-height-of bounds (example method face)) .least))
 unfolding opened
 safe method face = tt
 
@@ -41,15 +41,15 @@ flame-fits : (method face : ℕ) → flame-too-low (example method face) ≡ fal
 unfolding flame-too-low
 flame-fits method face =
     let E = example method face in
-    let D = diameter bounds E in
-    let L = flame-height bounds E in
+    let D = diameter-of bounds E in
+    let L = flame-height-of bounds E in
     let t = safe method face in
-    let d = diameter-kept within E .where-safe (and-l (D .safe) (L .safe) (and-l (D .safe && L .safe) (leb (D .most) (4 * L .least)) t)) in
-    let l = flame-height-kept within E .where-safe (and-r (D .safe) (L .safe) (and-l (D .safe && L .safe) (leb (D .most) (4 * L .least)) t)) in
+    let d = diameter-of-kept within E .where-safe (and-l (D .safe) (L .safe) (and-l (D .safe && L .safe) (leb (D .most) (4 * L .least)) t)) in
+    let l = flame-height-of-kept within E .where-safe (and-r (D .safe) (L .safe) (and-l (D .safe && L .safe) (leb (D .most) (4 * L .least)) t)) in
     let tall = leb→le (D .most) (4 * L .least) (and-r (D .safe && L .safe) (leb (D .most) (4 * L .least)) t) in
     let same = within-limits-not-refused E (fuel-fits method face) refl in
-    let high : (diameter answers E) .pair .high ≤ 4 * (flame-height answers E) .pair .low = le-trans (d .inside .high) (le-trans tall (mul-le-mul-left 4 (l .inside .low))) in
-    less-fails (4 * (flame-height rounded E) .low) ((diameter rounded E) .high) (rw (same .diameter-given, same .flame-height-given) at high)
+    let high : (diameter-of answers E) .pair .high ≤ 4 * (flame-height-of answers E) .pair .low = le-trans (d .inside .high) (le-trans tall (mul-le-mul-left 4 (l .inside .low))) in
+    less-fails (4 * (flame-height-of rounded E) .low) ((diameter-of rounded E) .high) (rw (same .diameter-given, same .flame-height-given) at high)
 
 pub example-tested : (method face : ℕ) → outside 1 2 method ≡ false → outside 1 3 face ≡ false → Tested (example method face)
 example-tested method face m f =

@@ -14,11 +14,11 @@ use Rattle.pairs.specs.Rounded.{U, up, down, fifth-power-up}
 use Rattle.pairs.specs.Answers.{answers}
 use Rattle.pairs.proofs.Rounding.{up-grows, down-grows}
 use Rattle.chain.specs.declared.enquiry.Enquiry.{Enquiry}
-use Rattle.chain.specs.Chain.{diameter, optical-depth, unabsorbed, heat-release, flame-height, emissive-power-1, emissive-power-2, relative-height, relative-distance}
+use Rattle.chain.specs.Chain.{diameter, optical-depth, unabsorbed, heat-release, flame-height, emissive-power-1, emissive-power-2, over-radius, diameter-of, unabsorbed-of, heat-release-of, flame-height-of, relative-height-of, relative-distance-of}
 use Rattle.chain.proofs.Bounds as B
 use Rattle.chain.proofs.Bounds.{Bound, bound, bounds, root-below}
 use Rattle.chain.proofs.Within.{Held, Within, within}
-use Rattle.chain.proofs.Steps.{diameter-from, heat-release-from, flame-height-from, emissive-power-1-from, emissive-power-2-from, over-radius, diameter-from-kept, heat-release-from-kept, flame-height-from-kept, emissive-power-1-from-kept, emissive-power-2-from-kept, relative-height-from-kept, relative-distance-from-kept}
+use Rattle.chain.proofs.Steps.{diameter-kept, heat-release-kept, flame-height-kept, emissive-power-1-kept, emissive-power-2-kept, over-radius-kept}
 use Rattle.chain.proofs.Boxes.{box, boxed, known, below-last, passing, tests-passed, passed, constant-held, every, each}
 use Rattle.chain.proofs.Sweep.{sweep, swept, chosen}
 use Rattle.chain.proofs.Exponential.{spread, exp-bound, shallowest, deepest, exp-held}
@@ -52,12 +52,12 @@ not-too-low D L = record { least = max (L .least) (D .least / 4); most = L .most
 unfoldable pub flame-test : Bound → ℕ → ℕ → ℕ → Bool
 flame-test D width a b =
     let Q = box a b width in
-    let L = flame-height-from bounds D Q in
+    let L = flame-height bounds D Q in
     L .safe && elim (ltb (4 * L .most) (D .least)) [
       | true ↦ true
       | false ↦
           let high = not-too-low D L in
-          passing relative-height-bound (over-radius bounds high D) && passing emissive-bound-2 (emissive-power-2-from bounds D Q high)
+          passing relative-height-bound (over-radius bounds high D) && passing emissive-bound-2 (emissive-power-2 bounds D Q high)
     ]
 
 -- The first box of heat release rates reaches to where flames are high enough; then by four fifths.
@@ -65,7 +65,7 @@ unfoldable pub next-heat : Bound → ℕ → ℕ
 next-heat D q = max (q + q * 4 / 5) (fifth-power-up (root-below (5 * D .least * U)))
 
 unfoldable pub heat-box : ℕ → Bound
-heat-box b = heat-release-from bounds (supply-box b) exp-bound
+heat-box b = heat-release bounds (supply-box b) exp-bound
 
 abbrev pub area-tests : ℕ → Bound → Bound → List Bool
 area-tests b D Q =
@@ -76,12 +76,12 @@ area-tests b D Q =
     ∷ leb (D .width * 2_000_000_000) (D .least)
     ∷ Q .safe
     ∷ passing relative-distance-bound (over-radius bounds distance-box D)
-    ∷ passing emissive-bound-1 (emissive-power-1-from bounds D)
+    ∷ passing emissive-bound-1 (emissive-power-1 bounds D)
     ∷ sweep (flame-test D (Q .width)) (next-heat D) 100 0 (suc (Q .most))
     ∷ []
 
 unfoldable pub area-test : ℕ → ℕ → Bool
-area-test a b = every (area-tests b (diameter-from bounds (area-box a b)) (heat-box b))
+area-test a b = every (area-tests b (diameter bounds (area-box a b)) (heat-box b))
 
 -- ---- the numbers of the enquiry
 -- The fuel's numbers and the area as far as the steps up to the flame need them.
@@ -123,55 +123,55 @@ depth-safe D k t h l =
 hundred : zero < 100
 hundred = lit< tt
 
-module _ (E : Enquiry) (F : Fuel E) (D : Bound) (hD : Held (diameter answers E) D) (safe : T (D .safe)) (below-50 : D .most ≤ 50 * U) where
-  depth-held : Held (optical-depth answers E) (B.over (B.times D (E .absorption)) 100)
+module _ (E : Enquiry) (F : Fuel E) (D : Bound) (hD : Held (diameter-of answers E) D) (safe : T (D .safe)) (below-50 : D .most ≤ 50 * U) where
+  depth-held : Held (optical-depth answers (E .absorption) (diameter-of answers E)) (B.over (B.times D (E .absorption)) 100)
   unfolding optical-depth
   depth-held =
       within .over (within .times (known hD) (E .absorption)) 100 .where-safe (depth-safe D (E .absorption) safe below-50 (F .most-absorption))
 
-  pub unabsorbed-held : shallowest ≤ down (D .least * 10) 100 → up (D .most * 500) 100 < deepest → D .width * 2_000_000_000 ≤ D .least → Held (unabsorbed answers E) exp-bound
-  unfolding unabsorbed B.over B.times bound
+  pub unabsorbed-held : shallowest ≤ down (D .least * 10) 100 → up (D .most * 500) 100 < deepest → D .width * 2_000_000_000 ≤ D .least → Held (unabsorbed-of answers E) exp-bound
+  unfolding unabsorbed-of unabsorbed B.over B.times bound
   unabsorbed-held above below narrow =
       let k = E .absorption in
       let y = depth-held .inside in
-      let p = (optical-depth answers E) .pair in
+      let p = (optical-depth answers (E .absorption) (diameter-of answers E)) .pair in
       let high : p .high < deepest = lt-of-le-of-lt (le-trans (y .high) (up-grows hundred (le-refl 100) (mul-le-mul-left (D .most) (F .most-absorption)))) below in
       let wide : D .width * k * 2_000_000_000 ≤ D .least * k = omega (arith, mul-le-mul-right k narrow) in
       let near : p .high ≤ p .low + spread (p .low) = omega (arith, y .near, spread-covers (D .width * k) (D .least * k) (p .low) wide (y .low)) in
-      exp-held (optical-depth answers E) (record { given = depth-held .given; ordered = y .ordered; near = near })
+      exp-held (optical-depth answers (E .absorption) (diameter-of answers E)) (record { given = depth-held .given; ordered = y .ordered; near = near })
       (le-trans above (le-trans (down-grows hundred (le-refl 100) (mul-le-mul-left (D .least) (F .least-absorption))) (y .low)))
       (lt-of-le-of-lt (y .ordered) high)
 
 -- ---- one box of heat release rates
 -- What follows where the flame is not too low.
 pub record High (E : Enquiry) : Type 0 where
-  pub height : Held (relative-height answers E) relative-height-bound
-  pub power : Held (emissive-power-2 answers E) emissive-bound-2
+  pub height : Held (relative-height-of answers E) relative-height-bound
+  pub power : Held (emissive-power-2 answers (diameter-of answers E) (heat-release-of answers E) (flame-height-of answers E)) emissive-bound-2
 
 pub record Flame (E : Enquiry) : Type 0 where
-  pub not-refused : (flame-height answers E) .number ≡ 0
-  pub high : (diameter answers E) .pair .high ≤ 4 * (flame-height answers E) .pair .low → High E
+  pub not-refused : (flame-height-of answers E) .number ≡ 0
+  pub high : (diameter-of answers E) .pair .high ≤ 4 * (flame-height-of answers E) .pair .low → High E
 
-raised : (E : Enquiry) (D L : Bound) → Held (diameter answers E) D → Held (flame-height answers E) L → (diameter answers E) .pair .high ≤ 4 * (flame-height answers E) .pair .low → Held (flame-height answers E) (not-too-low D L)
+raised : (E : Enquiry) (D L : Bound) → Held (diameter-of answers E) D → Held (flame-height-of answers E) L → (diameter-of answers E) .pair .high ≤ 4 * (flame-height-of answers E) .pair .low → Held (flame-height-of answers E) (not-too-low D L)
 unfolding not-too-low
 raised E D L d l tall =
     let i = l .inside in
     let j = d .inside in
-    let quarter : D .least / 4 ≤ (flame-height answers E) .pair .low = omega (arith, j .low, j .ordered, tall) in
+    let quarter : D .least / 4 ≤ (flame-height-of answers E) .pair .low = omega (arith, j .low, j .ordered, tall) in
     record { given = l .given; inside = record { low = max-le (i .low) quarter; ordered = i .ordered; high = i .high; near = i .near } }
 
-flame-tested : (E : Enquiry) (D Q : Bound) → Held (diameter answers E) D → Held (heat-release answers E) Q → (a b : ℕ) → T (flame-test D (Q .width) a b) → (i : ℕ) → a ≤ i → i ≤ b → i ≡ (heat-release answers E) .pair .low → Flame E
-unfolding flame-test
+flame-tested : (E : Enquiry) (D Q : Bound) → Held (diameter-of answers E) D → Held (heat-release-of answers E) Q → (a b : ℕ) → T (flame-test D (Q .width) a b) → (i : ℕ) → a ≤ i → i ≤ b → i ≡ (heat-release-of answers E) .pair .low → Flame E
+unfolding flame-test flame-height-of relative-height-of
 flame-tested E D Q d q a b t i l u e =
-    let heat = boxed {f = heat-release answers E} a b q (rw e at l) (rw e at u) in
+    let heat = boxed {f = heat-release-of answers E} a b q (rw e at l) (rw e at u) in
     let Q-box = box a b (Q .width) in
-    let L = flame-height-from bounds D Q-box in
+    let L = flame-height bounds D Q-box in
     let tall = not-too-low D L in
     let height : Bool = passing relative-height-bound (over-radius bounds tall D) in
-    let power : Bool = passing emissive-bound-2 (emissive-power-2-from bounds D Q-box tall) in
+    let power : Bool = passing emissive-bound-2 (emissive-power-2 bounds D Q-box tall) in
     let rest : Bool = height && power in
     let test : Bool = elim (ltb (4 * L .most) (D .least)) [ true ↦ true | false ↦ rest ] in
-    let H = flame-height-from-kept within E (known d) heat .where-safe (and-l (L .safe) test t) in
+    let H = flame-height-kept within (known d) heat .where-safe (and-l (L .safe) test t) in
     record {
       not-refused = H .given;
       high = λ tall-enough.
@@ -180,36 +180,36 @@ flame-tested E D Q d q a b t i l u e =
             | inr p ↦
                 let h = known (raised E D L d H tall-enough) in
                 record {
-                  height = passed relative-height-bound (and-l height power p) (relative-height-from-kept within E (known d) h);
-                  power = passed emissive-bound-2 (and-r height power p) (emissive-power-2-from-kept within E (known d) heat h);
+                  height = passed relative-height-bound (and-l height power p) (over-radius-kept within h (known d));
+                  power = passed emissive-bound-2 (and-r height power p) (emissive-power-2-kept within (known d) heat h);
                 }
           ];
     }
 
 -- ---- one box of areas
 pub record Area (E : Enquiry) : Type 0 where
-  pub diameter : Held (diameter answers E) diameter-bound
-  pub unabsorbed : Held (unabsorbed answers E) exp-bound
-  pub heat-release : (heat-release answers E) .number ≡ 0
-  pub power : Held (emissive-power-1 answers E) emissive-bound-1
-  pub distance : 1_000 ≤ E .distance → E .distance ≤ 200_000 → Held (relative-distance answers E) relative-distance-bound
+  pub diameter : Held (diameter-of answers E) diameter-bound
+  pub unabsorbed : Held (unabsorbed-of answers E) exp-bound
+  pub heat-release : (heat-release-of answers E) .number ≡ 0
+  pub power : Held (emissive-power-1 answers (diameter-of answers E)) emissive-bound-1
+  pub distance : 1_000 ≤ E .distance → E .distance ≤ 200_000 → Held (relative-distance-of answers E) relative-distance-bound
   pub flame : Flame E
 
 rates : (E : Enquiry) → Fuel E → E .rate * E .heat * E .area ≤ 75_000 * E .area
 rates E F = mul-le-mul-right (E .area) (mul-le-mul (F .rate) (F .heat))
 
-heat-held : (E : Enquiry) (b : ℕ) → Within (answers .constant (E .rate * E .heat * E .area) 1000) (supply-box b) → Within (unabsorbed answers E) exp-bound → T ((heat-box b) .safe) → Held (heat-release answers E) (heat-box b)
-unfolding heat-box
-heat-held E b h k t = heat-release-from-kept within E h k .where-safe t
+heat-held : (E : Enquiry) (b : ℕ) → Within (answers .constant (E .rate * E .heat * E .area) 1000) (supply-box b) → Within (unabsorbed-of answers E) exp-bound → T ((heat-box b) .safe) → Held (heat-release-of answers E) (heat-box b)
+unfolding heat-box heat-release-of
+heat-held E b h k t = heat-release-kept within h k .where-safe t
 
 pub area-tested : (a b : ℕ) → T (area-test a b) → (n : ℕ) → a ≤ n → n ≤ b → (E : Enquiry) → n ≡ E .area → Fuel E → Area E
-unfolding area-test
+unfolding area-test diameter-of relative-distance-of
 area-tested a b t n l u E e F =
-    let D = diameter-from bounds (area-box a b) in
+    let D = diameter bounds (area-box a b) in
     let Q = heat-box b in
     let c = each (area-tests b D Q) t in
     let small : b ≤ 190_001 = leb→le b 190_001 (c .0) in
-    let dw = diameter-from-kept within E (known (area-held (E .area) a b (rw e at l) (rw e at u) small)) in
+    let dw = diameter-kept within (known (area-held (E .area) a b (rw e at l) (rw e at u) small)) in
     let p = tests-passed diameter-bound D (c .1 .0) in
     let d = dw .where-safe (p .safe) in
     let c₂ = c .1 .1 in
@@ -221,10 +221,10 @@ area-tested a b t n l u E e F =
       diameter = passed diameter-bound (c .1 .0) dw;
       unabsorbed = X;
       heat-release = q .given;
-      power = passed emissive-bound-1 (c₅ .1 .1 .0) (emissive-power-1-from-kept within E dw);
-      distance = λ lo hi. passed relative-distance-bound (c₅ .1 .0) (relative-distance-from-kept within E dw (known (distance-held (E .distance) lo hi)));
+      power = passed emissive-bound-1 (c₅ .1 .1 .0) (emissive-power-1-kept within dw);
+      distance = λ lo hi. passed relative-distance-bound (c₅ .1 .0) (over-radius-kept within (known (distance-held (E .distance) lo hi)) dw);
       flame =
-          swept (flame-test D (Q .width)) (next-heat D) (λ i. i ≡ (heat-release answers E) .pair .low → Flame E)
+          swept (flame-test D (Q .width)) (next-heat D) (λ i. i ≡ (heat-release-of answers E) .pair .low → Flame E)
           (flame-tested E D Q d q) 100 0 (suc (Q .most)) (c₅ .1 .1 .1 .0)
-          ((heat-release answers E) .pair .low) zero-le (below-last q) refl;
+          ((heat-release-of answers E) .pair .low) zero-le (below-last q) refl;
     }

@@ -4,35 +4,9 @@ use mathlib.Core.Bool.{Bool, true, false}
 use Prim.Native.Nat.{ℕ, _*_}
 use lib.Dec.{eqb}
 use Rattle.pairs.specs.Arithmetic.{Arithmetic}
-use Rattle.pairs.specs.Series.{one, pi, exp-neg, ln-ten}
 use Rattle.pairs.proofs.Kept.{Kept, one-kept, atan-kept, pi-kept, exp-neg-kept, ln-ten-kept}
 use Rattle.chain.specs.declared.enquiry.Enquiry.{Enquiry}
-use Rattle.chain.specs.Chain.{diameter, radius, optical-depth, unabsorbed, heat-release, fifth-root-of-heat, flame-height, decline, emissive-power-1, radiant-fraction, flame-surface, emissive-power-2, emissive-power, relative-height, relative-distance, x, g, r, u, v, tilt, height-angle, vertical-ratio, vertical, horizontal-ratio, horizontal, factor, radiant-flux}
-
--- ---- each step from the results of the steps before it
-module _ (A : Arithmetic) where
-  unfoldable pub diameter-from : A .Carrier → A .Carrier
-  diameter-from area = A .root (A .quotient area (pi A))
-
-  unfoldable pub heat-release-from : A .Carrier → A .Carrier → A .Carrier
-  heat-release-from supply X = A .product supply (A .difference (one A) X)
-
-  unfoldable pub flame-height-from : A .Carrier → A .Carrier → A .Carrier
-  flame-height-from D Q =
-      let s = A .fifth-root Q in
-      A .difference (A .product (A .constant 235 1000) (A .product s s)) (A .product (A .constant 102 100) D)
-
-  unfoldable pub emissive-power-1-from : A .Carrier → A .Carrier
-  emissive-power-1-from D = A .times (exp-neg A (A .product (A .product (A .constant 823 100000) D) (ln-ten A))) 58
-
-  unfoldable pub emissive-power-2-from : A .Carrier → A .Carrier → A .Carrier → A .Carrier
-  emissive-power-2-from D Q L =
-      A .quotient (A .product (A .difference (A .constant 21 100) (A .product (A .constant 34 10000) D)) Q)
-      (A .sum (A .product (A .product (pi A) D) L) (A .over (A .product (pi A) (A .product D D)) 4))
-
-  -- A length over the radius: l of the flame height, e of the rim distance.
-  unfoldable pub over-radius : A .Carrier → A .Carrier → A .Carrier
-  over-radius length D = A .quotient length (A .over D 2)
+use Rattle.chain.specs.Chain.{diameter, radius, optical-depth, unabsorbed, heat-release, flame-height, emissive-power-1, radiant-fraction, flame-surface, emissive-power-2, emissive-power, over-radius, diameter-of, unabsorbed-of, heat-release-of, flame-height-of, emissive-power-of, relative-height-of, relative-distance-of, x, g, r, u, v, tilt, height-angle, vertical-ratio, vertical, horizontal-ratio, horizontal, factor, radiant-flux}
 
 -- The same choice on both sides.
 pub choice-kept : {X Y : Type 0} (R : X → Y → Type 0) (b : Bool) {p q : X} {c d : Y} → R p c → R q d → R (elim b [ true ↦ p | false ↦ q ]) (elim b [ true ↦ c | false ↦ d ])
@@ -40,37 +14,38 @@ choice-kept R true h k = h
 choice-kept R false h k = k
 
 module _ {A B : Arithmetic} {R : A .Carrier → B .Carrier → Type 0} (K : Kept A B R) where
-  module _ (E : Enquiry) where
-    pub diameter-from-kept : {a : B .Carrier} → R (A .constant (4 * E .area) 100) a → R (diameter A E) (diameter-from B a)
-    unfolding diameter diameter-from
-    diameter-from-kept h = K .root (K .quotient h (pi-kept K))
+  -- ---- steps 1 to 6
+  pub diameter-kept : {a : A .Carrier} {b : B .Carrier} → R a b → R (diameter A a) (diameter B b)
+  unfolding diameter
+  diameter-kept h = K .root (K .quotient h (pi-kept K))
 
-    pub heat-release-from-kept : {c X : B .Carrier} → R (A .constant (E .rate * E .heat * E .area) 1000) c → R (unabsorbed A E) X → R (heat-release A E) (heat-release-from B c X)
-    unfolding heat-release heat-release-from
-    heat-release-from-kept h k = K .product h (K .difference (one-kept K) k)
+  pub unabsorbed-kept : (k : ℕ) {D : A .Carrier} {D′ : B .Carrier} → R D D′ → R (unabsorbed A k D) (unabsorbed B k D′)
+  unfolding unabsorbed optical-depth
+  unabsorbed-kept k d = exp-neg-kept K (K .over (K .times d k) 100)
 
-    pub flame-height-from-kept : {D Q : B .Carrier} → R (diameter A E) D → R (heat-release A E) Q → R (flame-height A E) (flame-height-from B D Q)
-    unfolding flame-height fifth-root-of-heat flame-height-from
-    flame-height-from-kept h k =
-        K .difference (K .product (K .constant 235 1000) (K .product (K .fifth-root k) (K .fifth-root k))) (K .product (K .constant 102 100) h)
+  pub heat-release-kept : {c X : A .Carrier} {c′ X′ : B .Carrier} → R c c′ → R X X′ → R (heat-release A c X) (heat-release B c′ X′)
+  unfolding heat-release
+  heat-release-kept h k = K .product h (K .difference (one-kept K) k)
 
-    pub emissive-power-1-from-kept : {D : B .Carrier} → R (diameter A E) D → R (emissive-power-1 A E) (emissive-power-1-from B D)
-    unfolding emissive-power-1 decline emissive-power-1-from
-    emissive-power-1-from-kept h = K .times (exp-neg-kept K (K .product (K .product (K .constant 823 100000) h) (ln-ten-kept K))) 58
+  pub flame-height-kept : {D Q : A .Carrier} {D′ Q′ : B .Carrier} → R D D′ → R Q Q′ → R (flame-height A D Q) (flame-height B D′ Q′)
+  unfolding flame-height
+  flame-height-kept d q =
+      K .difference (K .product (K .constant 235 1000) (K .product (K .fifth-root q) (K .fifth-root q))) (K .product (K .constant 102 100) d)
 
-    pub emissive-power-2-from-kept : {D Q L : B .Carrier} → R (diameter A E) D → R (heat-release A E) Q → R (flame-height A E) L → R (emissive-power-2 A E) (emissive-power-2-from B D Q L)
-    unfolding emissive-power-2 radiant-fraction flame-surface emissive-power-2-from
-    emissive-power-2-from-kept d q l =
-        K .quotient (K .product (K .difference (K .constant 21 100) (K .product (K .constant 34 10000) d)) q)
-        (K .sum (K .product (K .product (pi-kept K) d) l) (K .over (K .product (pi-kept K) (K .product d d)) 4))
+  pub emissive-power-1-kept : {D : A .Carrier} {D′ : B .Carrier} → R D D′ → R (emissive-power-1 A D) (emissive-power-1 B D′)
+  unfolding emissive-power-1
+  emissive-power-1-kept d = K .times (exp-neg-kept K (K .product (K .product (K .constant 823 100000) d) (ln-ten-kept K))) 58
 
-    pub relative-height-from-kept : {D L : B .Carrier} → R (diameter A E) D → R (flame-height A E) L → R (relative-height A E) (over-radius B L D)
-    unfolding relative-height radius over-radius
-    relative-height-from-kept d l = K .quotient l (K .over d 2)
+  pub emissive-power-2-kept :
+      {D Q L : A .Carrier} {D′ Q′ L′ : B .Carrier} → R D D′ → R Q Q′ → R L L′ → R (emissive-power-2 A D Q L) (emissive-power-2 B D′ Q′ L′)
+  unfolding emissive-power-2 radiant-fraction flame-surface
+  emissive-power-2-kept d q l =
+      K .quotient (K .product (K .difference (K .constant 21 100) (K .product (K .constant 34 10000) d)) q)
+      (K .sum (K .product (K .product (pi-kept K) d) l) (K .over (K .product (pi-kept K) (K .product d d)) 4))
 
-    pub relative-distance-from-kept : {D t : B .Carrier} → R (diameter A E) D → R (A .constant (E .distance) 1000) t → R (relative-distance A E) (over-radius B t D)
-    unfolding relative-distance radius over-radius
-    relative-distance-from-kept d t = K .quotient t (K .over d 2)
+  pub over-radius-kept : {t D : A .Carrier} {t′ D′ : B .Carrier} → R t t′ → R D D′ → R (over-radius A t D) (over-radius B t′ D′)
+  unfolding over-radius radius
+  over-radius-kept t d = K .quotient t (K .over d 2)
 
   -- ---- step 7
   pub x-kept : {e : A .Carrier} {c : B .Carrier} → R e c → R (x A e) (x B c)
@@ -134,36 +109,36 @@ module _ {A B : Arithmetic} {R : A .Carrier → B .Carrier → Type 0} (K : Kept
 
   -- ---- the chain of one enquiry
   module _ (E : Enquiry) where
-    pub diameter-kept : R (diameter A E) (diameter B E)
-    unfolding diameter diameter-from
-    diameter-kept = diameter-from-kept E (K .constant (4 * E .area) 100)
+    pub diameter-of-kept : R (diameter-of A E) (diameter-of B E)
+    unfolding diameter-of
+    diameter-of-kept = diameter-kept (K .constant (4 * E .area) 100)
 
-    pub unabsorbed-kept : R (unabsorbed A E) (unabsorbed B E)
-    unfolding unabsorbed optical-depth
-    unabsorbed-kept = exp-neg-kept K (K .over (K .times diameter-kept (E .absorption)) 100)
+    pub unabsorbed-of-kept : R (unabsorbed-of A E) (unabsorbed-of B E)
+    unfolding unabsorbed-of
+    unabsorbed-of-kept = unabsorbed-kept (E .absorption) diameter-of-kept
 
-    pub heat-release-kept : R (heat-release A E) (heat-release B E)
-    unfolding heat-release heat-release-from
-    heat-release-kept = heat-release-from-kept E (K .constant (E .rate * E .heat * E .area) 1000) unabsorbed-kept
+    pub heat-release-of-kept : R (heat-release-of A E) (heat-release-of B E)
+    unfolding heat-release-of
+    heat-release-of-kept = heat-release-kept (K .constant (E .rate * E .heat * E .area) 1000) unabsorbed-of-kept
 
-    pub flame-height-kept : R (flame-height A E) (flame-height B E)
-    unfolding flame-height fifth-root-of-heat flame-height-from
-    flame-height-kept = flame-height-from-kept E diameter-kept heat-release-kept
+    pub flame-height-of-kept : R (flame-height-of A E) (flame-height-of B E)
+    unfolding flame-height-of
+    flame-height-of-kept = flame-height-kept diameter-of-kept heat-release-of-kept
 
-    pub emissive-power-kept : R (emissive-power A E) (emissive-power B E)
-    unfolding emissive-power emissive-power-1 decline emissive-power-1-from emissive-power-2 radiant-fraction flame-surface emissive-power-2-from
-    emissive-power-kept =
-        choice-kept R (eqb (E .method) 1) (emissive-power-1-from-kept E diameter-kept)
-        (emissive-power-2-from-kept E diameter-kept heat-release-kept flame-height-kept)
+    emissive-power-of-kept : R (emissive-power-of A E) (emissive-power-of B E)
+    unfolding emissive-power-of emissive-power
+    emissive-power-of-kept =
+        choice-kept R (eqb (E .method) 1) (emissive-power-1-kept diameter-of-kept)
+        (emissive-power-2-kept diameter-of-kept heat-release-of-kept flame-height-of-kept)
 
-    pub relative-height-kept : R (relative-height A E) (relative-height B E)
-    unfolding relative-height radius over-radius
-    relative-height-kept = relative-height-from-kept E diameter-kept flame-height-kept
+    relative-height-of-kept : R (relative-height-of A E) (relative-height-of B E)
+    unfolding relative-height-of
+    relative-height-of-kept = over-radius-kept flame-height-of-kept diameter-of-kept
 
-    pub relative-distance-kept : R (relative-distance A E) (relative-distance B E)
-    unfolding relative-distance radius over-radius
-    relative-distance-kept = relative-distance-from-kept E diameter-kept (K .constant (E .distance) 1000)
+    relative-distance-of-kept : R (relative-distance-of A E) (relative-distance-of B E)
+    unfolding relative-distance-of
+    relative-distance-of-kept = over-radius-kept (K .constant (E .distance) 1000) diameter-of-kept
 
     pub radiant-flux-kept : R (radiant-flux A E) (radiant-flux B E)
     unfolding radiant-flux
-    radiant-flux-kept = K .product emissive-power-kept (factor-kept (E .face) relative-height-kept relative-distance-kept)
+    radiant-flux-kept = K .product emissive-power-of-kept (factor-kept (E .face) relative-height-of-kept relative-distance-of-kept)

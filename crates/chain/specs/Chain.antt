@@ -7,61 +7,51 @@ use Rattle.pairs.specs.Series.{one, atan, pi, exp-neg, ln-ten}
 use Rattle.chain.specs.declared.enquiry.Enquiry.{Enquiry}
 
 module _ (A : Arithmetic) where
-  -- 1. "D = root((4a/100)/pi); R = D over 2." (A.2)
-  unfoldable pub diameter : Enquiry → A .Carrier
-  diameter E = A .root (A .quotient (A .constant (4 * E .area) 100) (pi A))
+  -- ---- the steps, each from what it takes of the steps before it
+  -- 1. "D = root((4a/100)/pi); R = D over 2." (A.2) Here 4a/100 comes as one exact pair.
+  unfoldable pub diameter : A .Carrier → A .Carrier
+  diameter four-areas = A .root (A .quotient four-areas (pi A))
 
-  unfoldable pub radius : Enquiry → A .Carrier
-  radius E = A .over (diameter E) 2
+  unfoldable pub radius : A .Carrier → A .Carrier
+  radius D = A .over D 2
 
   -- 2. "X = exp(-(k·D over 100))." (A.4)
-  unfoldable pub optical-depth : Enquiry → A .Carrier
-  optical-depth E = A .over (A .times (diameter E) (E .absorption)) 100
+  unfoldable pub optical-depth : ℕ → A .Carrier → A .Carrier
+  optical-depth k D = A .over (A .times D k) 100
 
-  unfoldable pub unabsorbed : Enquiry → A .Carrier
-  unabsorbed E = exp-neg A (optical-depth E)
+  unfoldable pub unabsorbed : ℕ → A .Carrier → A .Carrier
+  unabsorbed k D = exp-neg A (optical-depth k D)
 
   -- 3. "Q = (m·c·a/1000)·(1-X), in kW; the first factor is taken as one exact pair." (A.3, A.4)
-  unfoldable pub heat-release : Enquiry → A .Carrier
-  heat-release E = A .product (A .constant (E .rate * E .heat * E .area) 1000) (A .difference (one A) (unabsorbed E))
+  unfoldable pub heat-release : A .Carrier → A .Carrier → A .Carrier
+  heat-release supply X = A .product supply (A .difference (one A) X)
 
   -- 4. "s = fifth root of Q; L = 0.235·(s·s) - 1.02·D." (A.10)
-  unfoldable pub fifth-root-of-heat : Enquiry → A .Carrier
-  fifth-root-of-heat E = A .fifth-root (heat-release E)
-
-  unfoldable pub flame-height : Enquiry → A .Carrier
-  flame-height E =
-      A .difference (A .product (A .constant 235 1000) (A .product (fifth-root-of-heat E) (fifth-root-of-heat E)))
-      (A .product (A .constant 102 100) (diameter E))
+  unfoldable pub flame-height : A .Carrier → A .Carrier → A .Carrier
+  flame-height D Q =
+      let s = A .fifth-root Q in
+      A .difference (A .product (A .constant 235 1000) (A .product s s)) (A .product (A .constant 102 100) D)
 
   -- 5. "Method 1: E = 58 times exp(-((0.00823·D)·ln 10))." (A.11)
-  unfoldable pub decline : Enquiry → A .Carrier
-  decline E = A .product (A .product (A .constant 823 100000) (diameter E)) (ln-ten A)
-
-  unfoldable pub emissive-power-1 : Enquiry → A .Carrier
-  emissive-power-1 E = A .times (exp-neg A (decline E)) 58
+  unfoldable pub emissive-power-1 : A .Carrier → A .Carrier
+  emissive-power-1 D = A .times (exp-neg A (A .product (A .product (A .constant 823 100000) D) (ln-ten A))) 58
 
   -- "Method 2: f = 0.21 - 0.0034·D; E = (f·Q)/(pi·D·L + (pi·(D·D) over 4))." (A.12, first row of Table A.2)
-  unfoldable pub radiant-fraction : Enquiry → A .Carrier
-  radiant-fraction E = A .difference (A .constant 21 100) (A .product (A .constant 34 10000) (diameter E))
+  unfoldable pub radiant-fraction : A .Carrier → A .Carrier
+  radiant-fraction D = A .difference (A .constant 21 100) (A .product (A .constant 34 10000) D)
 
-  unfoldable pub flame-surface : Enquiry → A .Carrier
-  flame-surface E =
-      A .sum (A .product (A .product (pi A) (diameter E)) (flame-height E))
-      (A .over (A .product (pi A) (A .product (diameter E) (diameter E))) 4)
+  unfoldable pub flame-surface : A .Carrier → A .Carrier → A .Carrier
+  flame-surface D L = A .sum (A .product (A .product (pi A) D) L) (A .over (A .product (pi A) (A .product D D)) 4)
 
-  unfoldable pub emissive-power-2 : Enquiry → A .Carrier
-  emissive-power-2 E = A .quotient (A .product (radiant-fraction E) (heat-release E)) (flame-surface E)
+  unfoldable pub emissive-power-2 : A .Carrier → A .Carrier → A .Carrier → A .Carrier
+  emissive-power-2 D Q L = A .quotient (A .product (radiant-fraction D) Q) (flame-surface D L)
 
-  unfoldable pub emissive-power : Enquiry → A .Carrier
-  emissive-power E = elim (eqb (E .method) 1) [ true ↦ emissive-power-1 E | false ↦ emissive-power-2 E ]
+  unfoldable pub emissive-power : ℕ → A .Carrier → A .Carrier → A .Carrier → A .Carrier
+  emissive-power method D Q L = elim (eqb method 1) [ true ↦ emissive-power-1 D | false ↦ emissive-power-2 D Q L ]
 
   -- 6. "l = L/R; e = (d/1000)/R."
-  unfoldable pub relative-height : Enquiry → A .Carrier
-  relative-height E = A .quotient (flame-height E) (radius E)
-
-  unfoldable pub relative-distance : Enquiry → A .Carrier
-  relative-distance E = A .quotient (A .constant (E .distance) 1000) (radius E)
+  unfoldable pub over-radius : A .Carrier → A .Carrier → A .Carrier
+  over-radius length D = A .quotient length (radius D)
 
   -- 7. "Factor F (B.2, B.4) with x = 1+e, g = e+2, r = root(e/g), u = root(l·l+g·g), v = root(l·l+e·e),
   -- A = atan((r·u)/v)." Here the last is tilt.
@@ -118,6 +108,28 @@ module _ (A : Arithmetic) where
         | false ↦ elim (eqb face 2) [ true ↦ horizontal l e | false ↦ A .larger (vertical l e) (horizontal l e) ]
       ]
 
+  -- ---- the steps of one enquiry
+  unfoldable pub diameter-of : Enquiry → A .Carrier
+  diameter-of E = diameter (A .constant (4 * E .area) 100)
+
+  unfoldable pub unabsorbed-of : Enquiry → A .Carrier
+  unabsorbed-of E = unabsorbed (E .absorption) (diameter-of E)
+
+  unfoldable pub heat-release-of : Enquiry → A .Carrier
+  heat-release-of E = heat-release (A .constant (E .rate * E .heat * E .area) 1000) (unabsorbed-of E)
+
+  unfoldable pub flame-height-of : Enquiry → A .Carrier
+  flame-height-of E = flame-height (diameter-of E) (heat-release-of E)
+
+  unfoldable pub emissive-power-of : Enquiry → A .Carrier
+  emissive-power-of E = emissive-power (E .method) (diameter-of E) (heat-release-of E) (flame-height-of E)
+
+  unfoldable pub relative-height-of : Enquiry → A .Carrier
+  relative-height-of E = over-radius (flame-height-of E) (diameter-of E)
+
+  unfoldable pub relative-distance-of : Enquiry → A .Carrier
+  relative-distance-of E = over-radius (A .constant (E .distance) 1000) (diameter-of E)
+
   -- 8. "q = E·F kW/m²." (A.1 in clear air)
   unfoldable pub radiant-flux : Enquiry → A .Carrier
-  radiant-flux E = A .product (emissive-power E) (factor (E .face) (relative-height E) (relative-distance E))
+  radiant-flux E = A .product (emissive-power-of E) (factor (E .face) (relative-height-of E) (relative-distance-of E))

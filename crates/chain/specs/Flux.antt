@@ -10,7 +10,7 @@ use Rattle.chain.specs.declared.enquiry.Turned.{Turned}
 use Rattle.chain.specs.declared.enquiry.Turned.the-variants as turned
 use Rattle.chain.specs.declared.enquiry.Flux.{Flux}
 use Rattle.chain.specs.declared.enquiry.Flux.the-variants.{Is, Refused}
-use Rattle.chain.specs.Chain.{diameter, flame-height, radiant-flux}
+use Rattle.chain.specs.Chain.{diameter-of, flame-height-of, radiant-flux}
 
 -- State, low, high and note as this paper shows them.
 pub record Shown : Type 0 where
@@ -49,7 +49,7 @@ fuel-within E =
 
 -- "16, flame too low, exactly when 4·L.low is under D.high"
 unfoldable pub flame-too-low : Enquiry → Bool
-flame-too-low E = ltb (4 * (flame-height rounded E) .low) ((diameter rounded E) .high)
+flame-too-low E = ltb (4 * (flame-height-of rounded E) .low) ((diameter-of rounded E) .high)
 
 -- "17, some stage's high end is 2^64 trillionths or more": a pair operation of the chain is refused by 64.
 unfoldable pub stage-too-large : Enquiry → Bool

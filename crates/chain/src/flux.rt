@@ -18,44 +18,50 @@ use pairs::answer::Answer;
 use pairs::answer::Pair;
 ghost use mathlib.Core.Path.{_≡_};
 ghost use Prim.Native.Nat.{_*_, _≤_};
-ghost use Rattle.pairs.specs.Rounded.{U, rounded};
-ghost use Rattle.pairs.specs.Figures.{figures, given};
+ghost use lib.Dec.{ltb};
+ghost use Rattle.pairs.specs.Rounded.{U};
+ghost use Rattle.pairs.specs.Figures.{figures};
 ghost use Rattle.pairs.specs.Answers.{answers};
 ghost use Rattle.chain.specs.Chain as chain;
-ghost use Rattle.chain.specs.Flux.{flame-too-low, flux-of, shown};
+ghost use Rattle.chain.specs.Flux.{flux-of, shown};
 ghost use Rattle.chain.specs.Private.{Limited, Prints};
 
-// Whether 4·L.low is under D.high.
-fn too_low(e: Enquiry, diameter: Answer, height: Answer) -> bool
-    requires { ⌜ figures diameter ≡ given (chain.diameter rounded e) ⌝ }
-    requires { ⌜ figures height ≡ given (chain.flame-height rounded e) ⌝ }
-    ensures { λ r. ⌜ r ≡ flame-too-low e ⌝ }
+// The pair of an answer, [0, 0] of a refusal.
+fn pair_of(a: Answer) -> Pair
+    ensures { λ r. ⌜ r ≡ (figures a) .pair ⌝ }
 {
-    let Answer::Is(across) = diameter else {
-        return false;
+    let Answer::Is(p) = a else {
+        return Pair { low: 0, high: 0 };
     };
-    let Answer::Is(up) = height else {
-        return false;
-    };
+    p
+}
+
+// Whether 4·L.low is under D.high.
+fn too_low(diameter: Answer, height: Answer) -> bool
+    ensures { λ r. ⌜ r ≡ ltb (4 * (figures height) .pair .low) ((figures diameter) .pair .high) ⌝ }
+{
+    let across = pair_of(diameter);
+    let up = pair_of(height);
     let d = across.high;
     up.low < d / 4 + (d % 4 + 3) / 4
 }
 
 // 8. q = E·F.
 fn radiant_flux(e: Enquiry, diameter: Answer, heat: Answer, height: Answer) -> Answer
-    requires { ⌜ figures diameter ≡ chain.diameter answers e ⌝ }
-    requires { ⌜ figures heat ≡ chain.heat-release answers e ⌝ }
-    requires { ⌜ figures height ≡ chain.flame-height answers e ⌝ }
+    requires { ⌜ figures diameter ≡ chain.diameter-of answers e ⌝ }
+    requires { ⌜ figures heat ≡ chain.heat-release-of answers e ⌝ }
+    requires { ⌜ figures height ≡ chain.flame-height-of answers e ⌝ }
     requires { ⌜ e .distance ≤ 200_000 ⌝ }
     ensures { λ r. ⌜ figures r ≡ chain.radiant-flux answers e ⌝ }
 {
+    let method = e.method;
     let face = e.face;
     let millimetres = e.distance as u64;
     let radius = over_of(diameter, 2);
     let l = quotient_of(height, radius);
     let distance = quotient_of(exact(millimetres * 1_000_000_000), radius);
     product_of(
-        emissive_power(e, diameter, heat, height),
+        emissive_power(method, diameter, heat, height),
         factor_of(face, l, distance),
     )
 }
@@ -80,10 +86,10 @@ fn flux_within(e: Enquiry) -> Flux
     requires { ⌜ Limited e ⌝ }
     ensures { λ r. ⌜ shown r ≡ flux-of e ⌝ }
 {
-    let across = diameter(e);
+    let across = diameter(e.area);
     let heat = heat_release(e, across);
-    let height = flame_height(e, across, heat);
-    if too_low(e, across, height) {
+    let height = flame_height(across, heat);
+    if too_low(across, height) {
         return Flux::Refused(Turned::LowFlame);
     }
     let method = e.method;

@@ -14,49 +14,46 @@ use super::lifted::sum_of;
 use super::lifted::times_of;
 use pairs::answer::Answer;
 ghost use mathlib.Core.Path.{_≡_};
-ghost use Prim.Native.Nat.{_≤_};
+ghost use Prim.Native.Nat.{_*_, _≤_};
 ghost use Rattle.pairs.specs.Figures.{figures};
 ghost use Rattle.pairs.specs.Answers.{answers};
 ghost use Rattle.chain.specs.Chain as chain;
 
 // 1. D = root((4a/100)/pi).
-pub(crate) fn diameter(e: Enquiry) -> Answer
-    requires { ⌜ e .area ≤ 190_000 ⌝ }
-    ensures { λ r. ⌜ figures r ≡ chain.diameter answers e ⌝ }
+pub(crate) fn diameter(area: u32) -> Answer
+    requires { ⌜ area ≤ 190_000 ⌝ }
+    ensures { λ r. ⌜ figures r ≡ chain.diameter answers (answers .constant (4 * area) 100) ⌝ }
 {
-    let a = e.area as u64;
+    let a = area as u64;
     root_of(quotient_of(exact(a * 40_000_000_000), pi_answer()))
 }
 
 // 2. X = exp(-(k·D over 100)).
-fn unabsorbed(e: Enquiry, diameter: Answer) -> Answer
-    requires { ⌜ figures diameter ≡ chain.diameter answers e ⌝ }
-    ensures { λ r. ⌜ figures r ≡ chain.unabsorbed answers e ⌝ }
+fn unabsorbed(absorption: u16, diameter: Answer) -> Answer
+    ensures { λ r. ⌜ figures r ≡ chain.unabsorbed answers absorption (figures diameter) ⌝ }
 {
-    let k = e.absorption as u64;
+    let k = absorption as u64;
     exp_neg_of(over_of(times_of(diameter, k), 100))
 }
 
 // 3. Q = (m·c·a/1000)·(1-X).
 pub(crate) fn heat_release(e: Enquiry, diameter: Answer) -> Answer
     requires { ⌜ (e .rate ≤ 150) × (e .heat ≤ 500) × (e .area ≤ 190_000) ⌝ }
-    requires { ⌜ figures diameter ≡ chain.diameter answers e ⌝ }
-    ensures { λ r. ⌜ figures r ≡ chain.heat-release answers e ⌝ }
+    ensures { λ r. ⌜ figures r ≡ chain.heat-release answers (answers .constant (e .rate * e .heat * e .area) 1000) (chain.unabsorbed answers (e .absorption) (figures diameter)) ⌝ }
 {
+    let absorption = e.absorption;
     let m = e.rate as u64;
     let c = e.heat as u64;
     let a = e.area as u64;
     product_of(
         exact(m * c * a * 1_000_000_000),
-        difference_of(exact(1_000_000_000_000), unabsorbed(e, diameter)),
+        difference_of(exact(1_000_000_000_000), unabsorbed(absorption, diameter)),
     )
 }
 
 // 4. s = fifth root of Q; L = 0.235·(s·s) - 1.02·D.
-pub(crate) fn flame_height(e: Enquiry, diameter: Answer, heat: Answer) -> Answer
-    requires { ⌜ figures diameter ≡ chain.diameter answers e ⌝ }
-    requires { ⌜ figures heat ≡ chain.heat-release answers e ⌝ }
-    ensures { λ r. ⌜ figures r ≡ chain.flame-height answers e ⌝ }
+pub(crate) fn flame_height(diameter: Answer, heat: Answer) -> Answer
+    ensures { λ r. ⌜ figures r ≡ chain.flame-height answers (figures diameter) (figures heat) ⌝ }
 {
     let s = fifth_root_of(heat);
     difference_of(
@@ -66,9 +63,8 @@ pub(crate) fn flame_height(e: Enquiry, diameter: Answer, heat: Answer) -> Answer
 }
 
 // 5. Method 1: E = 58 times exp(-((0.00823·D)·ln 10)).
-fn emissive_power_1(e: Enquiry, diameter: Answer) -> Answer
-    requires { ⌜ figures diameter ≡ chain.diameter answers e ⌝ }
-    ensures { λ r. ⌜ figures r ≡ chain.emissive-power-1 answers e ⌝ }
+fn emissive_power_1(diameter: Answer) -> Answer
+    ensures { λ r. ⌜ figures r ≡ chain.emissive-power-1 answers (figures diameter) ⌝ }
 {
     times_of(
         exp_neg_of(product_of(product_of(exact(8_230_000_000), diameter), ln_ten_answer())),
@@ -77,10 +73,8 @@ fn emissive_power_1(e: Enquiry, diameter: Answer) -> Answer
 }
 
 // pi·D·L + (pi·(D·D) over 4).
-fn flame_surface(e: Enquiry, diameter: Answer, height: Answer) -> Answer
-    requires { ⌜ figures diameter ≡ chain.diameter answers e ⌝ }
-    requires { ⌜ figures height ≡ chain.flame-height answers e ⌝ }
-    ensures { λ r. ⌜ figures r ≡ chain.flame-surface answers e ⌝ }
+fn flame_surface(diameter: Answer, height: Answer) -> Answer
+    ensures { λ r. ⌜ figures r ≡ chain.flame-surface answers (figures diameter) (figures height) ⌝ }
 {
     let pi = pi_answer();
     sum_of(
@@ -90,32 +84,22 @@ fn flame_surface(e: Enquiry, diameter: Answer, height: Answer) -> Answer
 }
 
 // Method 2: f = 0.21 - 0.0034·D; E = (f·Q)/(pi·D·L + (pi·(D·D) over 4)).
-fn emissive_power_2(e: Enquiry, diameter: Answer, heat: Answer, height: Answer) -> Answer
-    requires { ⌜ figures diameter ≡ chain.diameter answers e ⌝ }
-    requires { ⌜ figures heat ≡ chain.heat-release answers e ⌝ }
-    requires { ⌜ figures height ≡ chain.flame-height answers e ⌝ }
-    ensures { λ r. ⌜ figures r ≡ chain.emissive-power-2 answers e ⌝ }
+fn emissive_power_2(diameter: Answer, heat: Answer, height: Answer) -> Answer
+    ensures { λ r. ⌜ figures r ≡ chain.emissive-power-2 answers (figures diameter) (figures heat) (figures height) ⌝ }
 {
     let fraction = difference_of(
         exact(210_000_000_000),
         product_of(exact(3_400_000_000), diameter),
     );
-    quotient_of(
-        product_of(fraction, heat),
-        flame_surface(e, diameter, height),
-    )
+    quotient_of(product_of(fraction, heat), flame_surface(diameter, height))
 }
 
-// The emissive power by the enquiry's method.
-pub(crate) fn emissive_power(e: Enquiry, diameter: Answer, heat: Answer, height: Answer) -> Answer
-    requires { ⌜ figures diameter ≡ chain.diameter answers e ⌝ }
-    requires { ⌜ figures heat ≡ chain.heat-release answers e ⌝ }
-    requires { ⌜ figures height ≡ chain.flame-height answers e ⌝ }
-    ensures { λ r. ⌜ figures r ≡ chain.emissive-power answers e ⌝ }
+// The emissive power by a method.
+pub(crate) fn emissive_power(method: u8, diameter: Answer, heat: Answer, height: Answer) -> Answer
+    ensures { λ r. ⌜ figures r ≡ chain.emissive-power answers method (figures diameter) (figures heat) (figures height) ⌝ }
 {
-    let method = e.method;
     if method == 1 {
-        return emissive_power_1(e, diameter);
+        return emissive_power_1(diameter);
     }
-    emissive_power_2(e, diameter, heat, height)
+    emissive_power_2(diameter, heat, height)
 }

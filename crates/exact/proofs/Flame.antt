@@ -8,10 +8,10 @@ use lib.Dec.{lit<, lit≤, eqb}
 use Rattle.pairs.specs.Answers.{answers}
 use Rattle.pairs.specs.Series.{pi}
 use Rattle.chain.specs.declared.enquiry.Enquiry.{Enquiry}
-use Rattle.chain.specs.Chain.{diameter, radius, optical-depth, unabsorbed, heat-release, fifth-root-of-heat, flame-height, decline, emissive-power-1, radiant-fraction, flame-surface, emissive-power-2, emissive-power, relative-height, relative-distance}
+use Rattle.chain.specs.Chain.{diameter, radius, optical-depth, unabsorbed, heat-release, flame-height, emissive-power-1, radiant-fraction, flame-surface, emissive-power-2, emissive-power, over-radius, diameter-of, unabsorbed-of, heat-release-of, flame-height-of, emissive-power-of, relative-height-of, relative-distance-of}
 use Rattle.exact.specs.Fraction.{_⊑_, whole, _⊗_, _⊘_, power}
 use Rattle.exact.specs.Depth as depth
-use Rattle.exact.specs.Depth.{exact}
+use Rattle.exact.specs.Depth.{Bracket, exact}
 use Rattle.exact.proofs.Order.{_⟫_, ⊕-right, ⊗-mono, ⊘-mono, over-mono, whole-mono, whole-above-0, above-from}
 use Rattle.exact.proofs.Root.{one-256th, root-at-least, root-at-most}
 use Rattle.exact.proofs.Sound.{Positive}
@@ -44,43 +44,42 @@ least-top-above-0 = lit< tt
 
 module _ (n : ℕ) (deep : 8 ≤ n) (E : Enquiry) where
   -- ---- step 1
-  pub diameter-meets : Meets (diameter answers E) (diameter (exact n) E)
-  unfolding diameter
+  abbrev D : Bracket
+  D = diameter-of (exact n) E
+
+  diameter-meets : Meets (diameter-of answers E) D
+  unfolding diameter-of diameter
   diameter-meets =
       root-meets
       (quotient-meets (constant-meets (4 * E .area) 100 (lit< tt) (omega arith)) (pi-meets n deep) (pi-positive n (omega arith))) n
 
-  radius-meets : Meets (radius answers E) (radius (exact n) E)
+  radius-meets : Meets (radius answers (diameter-of answers E)) (radius (exact n) D)
   unfolding radius
   radius-meets = over-meets diameter-meets 2 (lit< tt)
 
   -- ---- steps 2 to 4
-  heat-release-meets : Meets (heat-release answers E) (heat-release (exact n) E)
-  unfolding heat-release unabsorbed optical-depth
+  heat-release-meets : Meets (heat-release-of answers E) (heat-release-of (exact n) E)
+  unfolding heat-release-of heat-release unabsorbed-of unabsorbed optical-depth
   heat-release-meets =
       product-meets (constant-meets (E .rate * E .heat * E .area) 1000 (lit< tt) (omega arith))
       (difference-meets (one-meets n) (exp-neg-meets n deep (over-meets (times-meets diameter-meets (E .absorption)) 100 (lit< tt))))
 
-  fifth-root-of-heat-meets : Meets (fifth-root-of-heat answers E) (fifth-root-of-heat (exact n) E)
-  unfolding fifth-root-of-heat
-  fifth-root-of-heat-meets = fifth-root-meets heat-release-meets n
-
-  pub flame-height-meets : Meets (flame-height answers E) (flame-height (exact n) E)
-  unfolding flame-height
+  flame-height-meets : Meets (flame-height-of answers E) (flame-height-of (exact n) E)
+  unfolding flame-height-of flame-height
   flame-height-meets =
-      difference-meets
-      (product-meets (constant-meets 235 1000 (lit< tt) refl) (product-meets fifth-root-of-heat-meets fifth-root-of-heat-meets))
+      let s = fifth-root-meets heat-release-meets n in
+      difference-meets (product-meets (constant-meets 235 1000 (lit< tt) refl) (product-meets s s))
       (product-meets (constant-meets 102 100 (lit< tt) refl) diameter-meets)
 
   -- ---- step 5
-  emissive-power-1-meets : Meets (emissive-power-1 answers E) (emissive-power-1 (exact n) E)
-  unfolding emissive-power-1 decline
+  emissive-power-1-meets : Meets (emissive-power-1 answers (diameter-of answers E)) (emissive-power-1 (exact n) D)
+  unfolding emissive-power-1
   emissive-power-1-meets =
       times-meets
       (exp-neg-meets n deep
       (product-meets (product-meets (constant-meets 823 100000 (lit< tt) refl) diameter-meets) (ln-ten-meets n deep))) 58
 
-  flame-surface-meets : Meets (flame-surface answers E) (flame-surface (exact n) E)
+  flame-surface-meets : Meets (flame-surface answers (diameter-of answers E) (flame-height-of answers E)) (flame-surface (exact n) D (flame-height-of (exact n) E))
   unfolding flame-surface
   flame-surface-meets =
       sum-meets (product-meets (product-meets (pi-meets n deep) diameter-meets) flame-height-meets)
@@ -88,8 +87,8 @@ module _ (n : ℕ) (deep : 8 ≤ n) (E : Enquiry) where
 
   module _ (least-area : 100 ≤ E .area) (most-area : E .area ≤ 190000) where
     -- ---- the divisors: D between 1 and 51
-    diameter-low : whole 1 ⊑ (diameter (exact n) E) .low
-    unfolding diameter depth.root depth.quotient depth.constant
+    diameter-low : whole 1 ⊑ D .low
+    unfolding diameter-of diameter depth.root depth.quotient depth.constant
     diameter-low =
         root-at-least 1 n 1 _
         (square-of-1 ⟫ ⊘-mono pi-high-above-0 (over-mono 100 100 (lit< tt) (le-refl 100) (whole-mono (omega arith))) (pi-high n))
@@ -97,55 +96,52 @@ module _ (n : ℕ) (deep : 8 ≤ n) (E : Enquiry) where
         pi-high-above-0 : zero < (pi (exact n)) .high .num
         pi-high-above-0 = above-from (pi-positive n (omega arith)) (pi-meets n deep .sound .ordered)
 
-    diameter-high : (diameter (exact n) E) .high ⊑ whole 51
-    unfolding diameter depth.root depth.quotient depth.constant
+    diameter-high : D .high ⊑ whole 51
+    unfolding diameter-of diameter depth.root depth.quotient depth.constant
     diameter-high =
         root-at-most 1 n 51 _
         (⊘-mono {c = whole 3} (whole-above-0 (lit< tt)) (over-mono 100 100 (lit< tt) (le-refl 100) (whole-mono (omega arith)))
         (pi-low n (omega arith))
         ⟫ square-of-51)
 
-    radius-positive : Positive (radius (exact n) E)
+    radius-positive : Positive (radius (exact n) D)
     unfolding radius depth.over
     radius-positive = above-from half-above-0 (over-mono 2 2 (lit< tt) (le-refl 2) diameter-low)
 
-    radius-high : (radius (exact n) E) .high ⊑ whole 51 ⊘ whole 2
+    radius-high : (radius (exact n) D) .high ⊑ whole 51 ⊘ whole 2
     unfolding radius depth.over
     radius-high = over-mono 2 2 (lit< tt) (le-refl 2) diameter-high
 
-    flame-surface-positive : Positive (flame-surface (exact n) E)
+    flame-surface-positive : Positive (flame-surface (exact n) D (flame-height-of (exact n) E))
     unfolding flame-surface depth.sum depth.over depth.product
     flame-surface-positive =
         above-from least-top-above-0
         (over-mono 4 4 (lit< tt) (le-refl 4) (⊗-mono (pi-low n (omega arith)) (⊗-mono diameter-low diameter-low)) ⟫ ⊕-right _ _)
 
-    emissive-power-2-meets : Meets (emissive-power-2 answers E) (emissive-power-2 (exact n) E)
-    unfolding emissive-power-2 radiant-fraction
-    emissive-power-2-meets =
-        quotient-meets
+    pub emissive-power-meets : Meets (emissive-power-of answers E) (emissive-power-of (exact n) E)
+    unfolding emissive-power-of emissive-power emissive-power-2 radiant-fraction
+    emissive-power-meets =
+        choice-meets (eqb (E .method) 1) emissive-power-1-meets
+        (quotient-meets
         (product-meets
         (difference-meets (constant-meets 21 100 (lit< tt) refl) (product-meets (constant-meets 34 10000 (lit< tt) refl) diameter-meets))
         heat-release-meets)
-        flame-surface-meets flame-surface-positive
-
-    pub emissive-power-meets : Meets (emissive-power answers E) (emissive-power (exact n) E)
-    unfolding emissive-power
-    emissive-power-meets = choice-meets (eqb (E .method) 1) emissive-power-1-meets emissive-power-2-meets
+        flame-surface-meets flame-surface-positive)
 
     -- ---- step 6
-    pub relative-height-meets : Meets (relative-height answers E) (relative-height (exact n) E)
-    unfolding relative-height
+    pub relative-height-meets : Meets (relative-height-of answers E) (relative-height-of (exact n) E)
+    unfolding relative-height-of over-radius
     relative-height-meets = quotient-meets flame-height-meets radius-meets radius-positive
 
-    pub relative-distance-meets : Meets (relative-distance answers E) (relative-distance (exact n) E)
-    unfolding relative-distance
+    pub relative-distance-meets : Meets (relative-distance-of answers E) (relative-distance-of (exact n) E)
+    unfolding relative-distance-of over-radius
     relative-distance-meets =
         quotient-meets (constant-meets (E .distance) 1000 (lit< tt) (omega arith)) radius-meets radius-positive
 
-    pub relative-distance-low : 1000 ≤ E .distance → one-256th ⊑ (relative-distance (exact n) E) .low
-    unfolding relative-distance depth.quotient depth.constant
+    pub relative-distance-low : 1000 ≤ E .distance → one-256th ⊑ (relative-distance-of (exact n) E) .low
+    unfolding relative-distance-of over-radius depth.quotient depth.constant
     relative-distance-low least =
         least-distance ⟫ ⊘-mono radius-high-above-0 (over-mono 1000 1000 (lit< tt) (le-refl 1000) (whole-mono least)) radius-high
       where
-        radius-high-above-0 : zero < (radius (exact n) E) .high .num
+        radius-high-above-0 : zero < (radius (exact n) D) .high .num
         radius-high-above-0 = above-from radius-positive (radius-meets .sound .ordered)

@@ -1,5 +1,5 @@
 -- Operations on answers: a refusal that comes in stays, and pairs go to the operation on pairs. By cases of the answer. Assumes nothing.
-use mathlib.Core.Path.{_≡_, refl, sym}
+use mathlib.Core.Path.{_≡_, refl, sym, ap}
 use mathlib.Core.List.{[], _∷_}
 use mathlib.Core.Logic.{inl, inr}
 use Prim.Native.Nat.{ℕ, suc}
@@ -10,6 +10,7 @@ use Rattle.pairs.proofs.answer.Answer as answer
 use Rattle.pairs.specs.declared.answer.Pair.{Pair}
 use Rattle.pairs.specs.declared.answer.Answer.{Answer}
 use Rattle.pairs.specs.declared.answer.Answer.the-variants.{Is, Disordered, ZeroDivisor, OutOfSpan, TooLarge}
+use Rattle.pairs.specs.Rounded.{ends}
 use Rattle.pairs.specs.Figures.{Figures, refused, figures, after}
 use Rattle.pairs.specs.Answers.{on-one, on-two}
 
@@ -38,6 +39,10 @@ stays a f = stays-in (λ x. after x f) (λ n. refl) a
 -- and as the second, after a first that gives.
 pub stays-second : (a b : Answer) (p : Pair) (f : Figures) → a ≡ Is p → Refused b → figures b ≡ after (figures a) (after (figures b) f)
 stays-second a b p f e h = rw e (stays b f h)
+
+-- The pair of a refusal is [0, 0].
+pub no-pair : (a : Answer) → Refused a → (figures a) .pair ≡ ends 0 0
+no-pair a h = ap (λ (x : Figures). x .pair) (stays-in (λ x. record { number = x .number; pair = ends 0 0 }) (λ n. refl) a h)
 
 -- Answers that are pairs: the operation on the pairs.
 pub gives-one : (f : Pair → Figures) (a : Answer) (p : Pair) (r : Figures) → a ≡ Is p → r ≡ f p → r ≡ on-one f (figures a)

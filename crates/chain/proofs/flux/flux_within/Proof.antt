@@ -1,13 +1,13 @@
 -- `flux_within` meets its contract: inside the limits no operation before the flame test refuses, and in an accepted chain none does.
 -- Assumes nothing.
-use mathlib.Core.Path.{_≡_, sym, ap, _∙_}
+use mathlib.Core.Path.{_≡_, sym, ap, ap₂, _∙_}
 use Prim.Native.Nat.{ℕ, _*_, _≤_}
 use mathlib.Core.Bool.{true, false, _&&_}
 use Rattle.chain.specs.declared.enquiry.Enquiry.{Enquiry}
-use lib.Dec.{eqb, leb}
+use lib.Dec.{eqb, leb, ltb}
 use Rattle.pairs.specs.declared.answer.Pair.{Pair}
 use Rattle.pairs.specs.Rounded.{U, down, up, rounded}
-use Rattle.pairs.specs.Figures.{figures, given}
+use Rattle.pairs.specs.Figures.{Figures, figures}
 use Rattle.pairs.specs.Answers.{answers}
 use Rattle.chain.specs.Chain as chain
 use Rattle.chain.specs.Flux.{Shown, refused, flame-too-low, low-of, high-of, note-of, flux-of}
@@ -43,28 +43,55 @@ worked E a q t e f = pair-given a (chain.radiant-flux rounded E) q (e ∙ accept
 small : (E : Enquiry) (q : Pair) → Tested E → q ≡ chain.radiant-flux rounded E → (q .low ≤ q .high) × (q .high ≤ 740 * U)
 small E q t e = let a = accepted E t in rw e (a .ordered, a .high)
 
+-- the answers of the steps up to the flame are those of the enquiry
+module _
+    (E : Enquiry) (D Q L : Figures) (d : D ≡ chain.diameter answers (answers .constant (4 * E .area) 100))
+    (q : Q ≡ chain.heat-release answers (answers .constant (E .rate * E .heat * E .area) 1000) (chain.unabsorbed answers (E .absorption) D))
+    (l : L ≡ chain.flame-height answers D Q) where
+  diameter-is : D ≡ chain.diameter-of answers E
+  unfolding chain.diameter-of
+  diameter-is = d
+
+  heat-is : Q ≡ chain.heat-release-of answers E
+  unfolding chain.heat-release-of chain.unabsorbed-of
+  heat-is = q ∙ ap (λ (x : Figures). chain.heat-release answers (answers .constant (E .rate * E .heat * E .area) 1000) (chain.unabsorbed answers (E .absorption) x)) diameter-is
+
+  height-is : L ≡ chain.flame-height-of answers E
+  unfolding chain.flame-height-of
+  height-is = l ∙ ap₂ (chain.flame-height answers) diameter-is heat-is
+
+  flame-test : Limited E → flame-too-low E ≡ ltb (4 * L .pair .low) (D .pair .high)
+  unfolding flame-too-low
+  flame-test w =
+      let u = within-limits-not-refused E (w .fuel) (w .area) in
+      ap₂ (λ (x y : Figures). ltb (4 * x .pair .low) (y .pair .high)) (sym (height-is ∙ u .flame-height-given)) (sym (diameter-is ∙ u .diameter-given))
+
 diameter-requires : tie.Need-diameter-requires
 diameter-requires c κs = between 100 190_000 _ (c .pre .area) .high
 
 heat-release-requires : tie.Need-heat-release-requires
-heat-release-requires c κs = let s = c .before in
-    let f = fuel _ (s .pre .fuel) in
-    ((f .rate, f .heat, between 100 190_000 _ (s .pre .area) .high), c .diameter .ensures)
+heat-release-requires c κs = let w = c .before .pre in
+    let f = fuel _ (w .fuel) in
+    (f .rate, f .heat, between 100 190_000 _ (w .area) .high)
 
 flame-height-requires : tie.Need-flame-height-requires
 flame-height-requires c κs = search needs
 
 too-low-requires : tie.Need-too-low-requires
-too-low-requires c κs = let s = c .before .before .before in
-    let u = within-limits-not-refused _ (s .pre .fuel) (s .pre .area) in
-    (c .before .before .diameter .ensures ∙ u .diameter-given, c .flame-height .ensures ∙ u .flame-height-given)
+too-low-requires c κs = search needs
 
 returns : tie.Need-returns
-returns c = low-flame _ (c .before .before .before .before .before .pre) (sym (c .before .too-low .ensures) ∙ c .if1 .taken)
+returns c = let h = c .before .before in
+    let w = h .before .before .before .pre in
+    let test = flame-test _ _ _ _ (h .before .before .diameter .ensures) (h .before .heat-release .ensures) (h .flame-height .ensures) w in
+    low-flame _ w (test ∙ sym (c .before .too-low .ensures) ∙ c .if1 .taken)
 
 radiant-flux-requires : tie.Need-radiant-flux-requires
 radiant-flux-requires c κs = let h = c .before .before in
-    (h .before .before .diameter .ensures, (h .before .heat-release .ensures, (h .flame-height .ensures, between 1_000 200_000 _ (h .before .before .before .pre .distance) .high)))
+    let d = h .before .before .diameter .ensures in
+    let q = h .before .heat-release .ensures in
+    let l = h .flame-height .ensures in
+    (diameter-is _ _ _ _ d q l, (heat-is _ _ _ _ d q l, (height-is _ _ _ _ d q l, between 1_000 200_000 _ (h .before .before .before .pre .distance) .high)))
 
 enum-known-q : tie.Need-enum-known-q
 enum-known-q c = search needs
@@ -72,22 +99,28 @@ enum-known-q c = search needs
 returns-2 : tie.Need-returns-2
 returns-2 c = let f = c .before in
     let e = f .before in
-    let s = e .before .before .before .before .before in
-    let t : Tested _ = record { limited = s .pre; flame = sym (e .before .too-low .ensures) ∙ e .if1 .left } in
+    let h = e .before .before in
+    let w = h .before .before .before .pre in
+    let test = flame-test _ _ _ _ (h .before .before .diameter .ensures) (h .before .heat-release .ensures) (h .flame-height .ensures) w in
+    let t : Tested _ = record { limited = w; flame = test ∙ sym (e .before .too-low .ensures) ∙ e .if1 .left } in
     absurd (never-refused (f .radiant-flux .result) _ (f .radiant-flux .ensures ∙ accepted _ t .flux-given) (c .match .keys2))
 
 printed-requires : tie.Need-printed-requires
 printed-requires c κs = let f = c .before .before .before in
     let e = f .before in
-    let s = e .before .before .before .before .before in
-    let t : Tested _ = record { limited = s .pre; flame = sym (e .before .too-low .ensures) ∙ e .if1 .left } in
+    let h = e .before .before in
+    let w = h .before .before .before .pre in
+    let test = flame-test _ _ _ _ (h .before .before .diameter .ensures) (h .before .heat-release .ensures) (h .flame-height .ensures) w in
+    let t : Tested _ = record { limited = w; flame = test ∙ sym (e .before .too-low .ensures) ∙ e .if1 .left } in
     small _ _ t (worked _ _ _ t (f .radiant-flux .ensures) (c .before .q .given .1))
 
 returns-3 : tie.Need-returns-3
 returns-3 c = let f = c .before .before .before .before in
     let e = f .before in
-    let s = e .before .before .before .before .before in
-    let t : Tested _ = record { limited = s .pre; flame = sym (e .before .too-low .ensures) ∙ e .if1 .left } in
+    let h = e .before .before in
+    let w = h .before .before .before .pre in
+    let test = flame-test _ _ _ _ (h .before .before .diameter .ensures) (h .before .heat-release .ensures) (h .flame-height .ensures) w in
+    let t : Tested _ = record { limited = w; flame = test ∙ sym (e .before .too-low .ensures) ∙ e .if1 .left } in
     as-shown _ _ _ t (worked _ _ _ t (f .radiant-flux .ensures) (c .before .before .q .given .1)) (c .printed .ensures)
 
 pub flux-within-spec : {M : Type 1} → statement M

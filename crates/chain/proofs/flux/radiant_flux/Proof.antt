@@ -1,8 +1,9 @@
 -- `radiant_flux` meets its contract: steps 6 to 8, one operation after the other.
 -- Assumes nothing.
-use mathlib.Core.Path.{refl, ap₂, _∙_}
+use mathlib.Core.Path.{_≡_, refl, ap₂, _∙_}
 use Prim.Native.Nat.{ℕ, _*_, _^_, _≤_, _<_}
 use native.Mathlib.Omega.{arith}
+use Rattle.pairs.specs.Figures.{Figures}
 use Rattle.pairs.specs.Answers as A
 use Rattle.chain.specs.Chain as chain
 use Rattle.chain.proofs.Constants.{thousandths}
@@ -12,6 +13,11 @@ use Rattle.chain.proofs.flux.radiant_flux.Tie as tie
 
 fits : {d : ℕ} → d ≤ 200_000 → d * 1_000_000_000 < 2 ^ 64
 fits h = omega arith
+
+emitted :
+    (method : ℕ) {D D′ Q Q′ L L′ : Figures} → D ≡ D′ → Q ≡ Q′ → L ≡ L′
+    → chain.emissive-power A.answers method D Q L ≡ chain.emissive-power A.answers method D′ Q′ L′
+emitted method d q l = λ i. chain.emissive-power A.answers method (d i) (q i) (l i)
 
 cast-millimetres : tie.Need-cast-millimetres
 cast-millimetres c = search needs
@@ -41,16 +47,20 @@ product-of-requires : tie.Need-product-of-requires
 product-of-requires c κs = search needs
 
 returns : tie.Need-returns
-unfolding chain.radiant-flux chain.relative-height chain.relative-distance chain.radius
+unfolding chain.radiant-flux chain.emissive-power-of chain.relative-height-of chain.relative-distance-of chain.over-radius chain.radius
 returns c =
     let s = c .before .before .before .before in
     let start = s .before .before .before .before in
-    let radius = s .before .before .over-of .ensures ∙ ap₂ A.over (start .pre .0) refl in
-    let l = s .before .quotient-of .ensures ∙ ap₂ A.quotient (start .pre .1 .1 .0) radius in
+    let D = start .pre .0 in
+    let Q = start .pre .1 .0 in
+    let L = start .pre .1 .1 .0 in
+    let radius = s .before .before .over-of .ensures ∙ ap₂ A.over D refl in
+    let l = s .before .quotient-of .ensures ∙ ap₂ A.quotient L radius in
     let rim = s .exact .ensures ∙ thousandths (start .args .e .distance) (fits (start .pre .1 .1 .1)) in
     let distance = c .before .before .before .quotient-of2 .ensures ∙ ap₂ A.quotient rim radius in
     let factor = c .before .factor-of .ensures ∙ ap₂ (chain.factor A.answers (start .args .e .face)) l distance in
-    c .product-of .ensures ∙ ap₂ A.product (c .before .before .emissive-power .ensures) factor
+    let power = c .before .before .emissive-power .ensures ∙ emitted (start .args .e .method) D Q L in
+    c .product-of .ensures ∙ ap₂ A.product power factor
 
 pub radiant-flux-spec : {M : Type 1} → statement M
 radiant-flux-spec =

@@ -16,9 +16,6 @@ use Rattle.chain.proofs.pool.diameter.Tie as tie
 pool-area : (a : ℕ) → a ≤ 190_000 → given (ends (a * 40_000_000_000) (a * 40_000_000_000)) ≡ A.constant (4 * a) 100
 pool-area a h = exact-pair (4 * a) 100 (a * 40_000_000_000) (omega arith) (omega arith)
 
-cast-a : tie.Need-cast-a
-cast-a c = search needs
-
 mul-exact : tie.Need-mul-exact
 mul-exact c = search needs
 
@@ -37,8 +34,8 @@ root-of-requires c κs = search needs
 returns : tie.Need-returns
 unfolding chain.diameter
 returns c =
-    let s = c .before .before .before .before .before in
-    let area = c .before .before .before .exact .ensures ∙ pool-area (s .args .e .area) (s .pre) in
+    let s = c .before .before .before .before in
+    let area = c .before .before .before .exact .ensures ∙ pool-area (s .args .area) (s .pre) in
     let square = c .before .quotient-of .ensures ∙ ap₂ A.quotient area (c .before .before .pi-answer .ensures) in
     c .root-of .ensures ∙ ap A.root square
 
@@ -46,7 +43,6 @@ pub diameter-spec : {M : Type 1} → statement M
 diameter-spec =
     tie.close
     (tie.spec
-    cast-a
     mul-exact
     exact-requires
     pi-answer-requires

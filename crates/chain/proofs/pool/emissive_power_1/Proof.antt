@@ -28,10 +28,10 @@ times-of-requires : tie.Need-times-of-requires
 times-of-requires c κs = search needs
 
 returns : tie.Need-returns
-unfolding chain.emissive-power-1 chain.decline A.constant A.fitting R.constant
+unfolding chain.emissive-power-1 A.constant A.fitting R.constant
 returns c =
     let s = c .before .before .before .before in
-    let declining = s .product-of .ensures ∙ ap₂ A.product (s .before .exact .ensures) (s .before .before .pre) in
+    let declining = s .product-of .ensures ∙ ap₂ A.product (s .before .exact .ensures) refl in
     let decline = c .before .before .product-of2 .ensures ∙ ap₂ A.product declining (c .before .before .before .ln-ten-answer .ensures) in
     let left = c .before .exp-neg-of .ensures ∙ ap (exp-neg A.answers) decline in
     c .times-of .ensures ∙ ap₂ A.times left refl

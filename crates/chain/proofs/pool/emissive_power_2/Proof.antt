@@ -1,6 +1,6 @@
 -- `emissive_power_2` meets its contract: the step's operations, one by one.
 -- Assumes nothing.
-use mathlib.Core.Path.{ap₂, _∙_}
+use mathlib.Core.Path.{refl, ap₂, _∙_}
 use Rattle.pairs.specs.Rounded as R
 use Rattle.pairs.specs.Answers as A
 use Rattle.chain.specs.Chain as chain
@@ -33,10 +33,9 @@ returns : tie.Need-returns
 unfolding chain.emissive-power-2 chain.radiant-fraction A.constant A.fitting R.constant
 returns c =
     let s = c .before .before .before in
-    let start = s .before .before .before .before in
-    let loss = s .before .product-of .ensures ∙ ap₂ A.product (s .before .before .exact2 .ensures) (start .pre .0) in
+    let loss = s .before .product-of .ensures ∙ ap₂ A.product (s .before .before .exact2 .ensures) refl in
     let fraction = s .difference-of .ensures ∙ ap₂ A.difference (s .before .before .before .exact .ensures) loss in
-    let radiated = c .before .before .product-of2 .ensures ∙ ap₂ A.product fraction (start .pre .1 .0) in
+    let radiated = c .before .before .product-of2 .ensures ∙ ap₂ A.product fraction refl in
     c .quotient-of .ensures ∙ ap₂ A.quotient radiated (c .before .flame-surface .ensures)
 
 pub emissive-power-2-spec : {M : Type 1} → statement M

@@ -1,6 +1,6 @@
 -- `flame_height` meets its contract: the step's operations, one by one.
 -- Assumes nothing.
-use mathlib.Core.Path.{ap, ap₂, _∙_}
+use mathlib.Core.Path.{refl, ap₂, _∙_}
 use Rattle.pairs.specs.Rounded as R
 use Rattle.pairs.specs.Answers as A
 use Rattle.chain.specs.Chain as chain
@@ -30,14 +30,13 @@ difference-of-requires : tie.Need-difference-of-requires
 difference-of-requires c κs = search needs
 
 returns : tie.Need-returns
-unfolding chain.flame-height chain.fifth-root-of-heat A.constant A.fitting R.constant
+unfolding chain.flame-height A.constant A.fitting R.constant
 returns c =
     let s = c .before .before .before in
-    let start = s .before .before .before .before in
-    let root = s .before .before .before .fifth-root-of .ensures ∙ ap A.fifth-root (start .pre .1) in
+    let root = s .before .before .before .fifth-root-of .ensures in
     let square = s .before .product-of .ensures ∙ ap₂ A.product root root in
     let plume = s .product-of2 .ensures ∙ ap₂ A.product (s .before .before .exact .ensures) square in
-    let base = c .before .product-of3 .ensures ∙ ap₂ A.product (c .before .before .exact2 .ensures) (start .pre .0) in
+    let base = c .before .product-of3 .ensures ∙ ap₂ A.product (c .before .before .exact2 .ensures) refl in
     c .difference-of .ensures ∙ ap₂ A.difference plume base
 
 pub flame-height-spec : {M : Type 1} → statement M

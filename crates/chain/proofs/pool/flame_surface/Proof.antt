@@ -32,12 +32,10 @@ returns : tie.Need-returns
 unfolding chain.flame-surface
 returns c =
     let s = c .before .before .before in
-    let start = s .before .before .before .before in
-    let D = start .pre .0 in
     let pi = s .before .before .before .pi-answer .ensures in
-    let rim = s .before .before .product-of .ensures ∙ ap₂ A.product pi D in
-    let side = s .before .product-of2 .ensures ∙ ap₂ A.product rim (start .pre .1) in
-    let square = s .product-of3 .ensures ∙ ap₂ A.product D D in
+    let rim = s .before .before .product-of .ensures ∙ ap₂ A.product pi refl in
+    let side = s .before .product-of2 .ensures ∙ ap₂ A.product rim refl in
+    let square = s .product-of3 .ensures in
     let top = c .before .over-of .ensures ∙ ap₂ A.over (c .before .before .product-of4 .ensures ∙ ap₂ A.product pi square) refl in
     c .sum-of .ensures ∙ ap₂ A.sum side top
 

@@ -29,13 +29,13 @@ cast-a : tie.Need-cast-a
 cast-a c = search needs
 
 mul-exact : tie.Need-mul-exact
-mul-exact c = omega (arith, most (c .before .before .before .args .e .rate) (c .before .before .before .args .e .heat) (c .before .before .before .args .e .area) (c .before .before .before .pre .0 .0) (c .before .before .before .pre .0 .1) (c .before .before .before .pre .0 .2) .0)
+mul-exact c = omega (arith, most (c .before .before .before .args .e .rate) (c .before .before .before .args .e .heat) (c .before .before .before .args .e .area) (c .before .before .before .pre .0) (c .before .before .before .pre .1) (c .before .before .before .pre .2) .0)
 
 mul-exact-2 : tie.Need-mul-exact-2
-mul-exact-2 c = omega (arith, most (c .before .before .before .args .e .rate) (c .before .before .before .args .e .heat) (c .before .before .before .args .e .area) (c .before .before .before .pre .0 .0) (c .before .before .before .pre .0 .1) (c .before .before .before .pre .0 .2) .1)
+mul-exact-2 c = omega (arith, most (c .before .before .before .args .e .rate) (c .before .before .before .args .e .heat) (c .before .before .before .args .e .area) (c .before .before .before .pre .0) (c .before .before .before .pre .1) (c .before .before .before .pre .2) .1)
 
 mul-exact-3 : tie.Need-mul-exact-3
-mul-exact-3 c = omega (arith, most (c .before .before .before .args .e .rate) (c .before .before .before .args .e .heat) (c .before .before .before .args .e .area) (c .before .before .before .pre .0 .0) (c .before .before .before .pre .0 .1) (c .before .before .before .pre .0 .2) .1)
+mul-exact-3 c = omega (arith, most (c .before .before .before .args .e .rate) (c .before .before .before .args .e .heat) (c .before .before .before .args .e .area) (c .before .before .before .pre .0) (c .before .before .before .pre .1) (c .before .before .before .pre .2) .1)
 
 exact-requires : tie.Need-exact-requires
 exact-requires c κs = search needs
@@ -58,7 +58,7 @@ returns c =
     let s = c .before .before .before .before in
     let start = s .before .before .before .before in
     let e = start .args .e in
-    let supply = s .exact .ensures ∙ thousandths (e .rate * e .heat * e .area) (fits (e .rate) (e .heat) (e .area) (start .pre .0 .0) (start .pre .0 .1) (start .pre .0 .2)) in
+    let supply = s .exact .ensures ∙ thousandths (e .rate * e .heat * e .area) (fits (e .rate) (e .heat) (e .area) (start .pre .0) (start .pre .1) (start .pre .2)) in
     let absorbed = c .before .difference-of .ensures ∙ ap₂ A.difference (c .before .before .before .exact2 .ensures) (c .before .before .unabsorbed .ensures) in
     c .product-of .ensures ∙ ap₂ A.product supply absorbed
 

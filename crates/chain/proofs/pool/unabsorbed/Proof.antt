@@ -8,9 +8,6 @@ use borrow.Author.Needs.{needs}
 use Rattle.chain.proofs.pool.unabsorbed.Statement.{statement}
 use Rattle.chain.proofs.pool.unabsorbed.Tie as tie
 
-cast-k : tie.Need-cast-k
-cast-k c = search needs
-
 times-of-requires : tie.Need-times-of-requires
 times-of-requires c κs = search needs
 
@@ -23,10 +20,9 @@ exp-neg-of-requires c κs = search needs
 returns : tie.Need-returns
 unfolding chain.unabsorbed chain.optical-depth
 returns c =
-    let scaled = c .before .before .times-of .ensures ∙ ap₂ A.times (c .before .before .before .before .pre) refl in
-    let depth = c .before .over-of .ensures ∙ ap₂ A.over scaled refl in
+    let depth = c .before .over-of .ensures ∙ ap₂ A.over (c .before .before .times-of .ensures) refl in
     c .exp-neg-of .ensures ∙ ap (exp-neg A.answers) depth
 
 pub unabsorbed-spec : {M : Type 1} → statement M
 unabsorbed-spec =
-    tie.close (tie.spec cast-k times-of-requires over-of-requires exp-neg-of-requires returns)
+    tie.close (tie.spec times-of-requires over-of-requires exp-neg-of-requires returns)
