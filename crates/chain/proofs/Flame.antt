@@ -14,11 +14,11 @@ use Rattle.pairs.specs.Rounded.{U, up, down, fifth-power-up}
 use Rattle.pairs.specs.Answers.{answers}
 use Rattle.pairs.proofs.Rounding.{up-grows, down-grows}
 use Rattle.chain.specs.declared.enquiry.Enquiry.{Enquiry}
-use Rattle.chain.specs.Chain.{diameter, optical-depth, unabsorbed, heat-release, flame-height, emissive-power-1, emissive-power-2, over-radius, diameter-of, unabsorbed-of, heat-release-of, flame-height-of, relative-height-of, relative-distance-of}
+use Rattle.chain.specs.Chain.{diameter, optical-depth, unabsorbed, heat-release, flame-height, emissive-power-1, emissive-power-2, in-radii, diameter-of, unabsorbed-of, heat-release-of, flame-height-of, relative-height-of, relative-distance-of}
 use Rattle.chain.proofs.Bounds as B
 use Rattle.chain.proofs.Bounds.{Bound, bound, bounds, root-below}
 use Rattle.chain.proofs.Within.{Held, Within, within}
-use Rattle.chain.proofs.Steps.{diameter-kept, heat-release-kept, flame-height-kept, emissive-power-1-kept, emissive-power-2-kept, over-radius-kept}
+use Rattle.chain.proofs.Steps.{diameter-kept, heat-release-kept, flame-height-kept, emissive-power-1-kept, emissive-power-2-kept, in-radii-kept}
 use Rattle.chain.proofs.Boxes.{box, boxed, known, below-last, passing, tests-passed, passed, constant-held, every, each}
 use Rattle.chain.proofs.Sweep.{sweep, swept, chosen}
 use Rattle.chain.proofs.Exponential.{spread, exp-bound, shallowest, deepest, exp-held}
@@ -57,7 +57,7 @@ flame-test D width a b =
       | true ↦ true
       | false ↦
           let high = not-too-low D L in
-          passing relative-height-bound (over-radius bounds high D) && passing emissive-bound-2 (emissive-power-2 bounds D Q high)
+          passing relative-height-bound (in-radii bounds high D) && passing emissive-bound-2 (emissive-power-2 bounds D Q high)
     ]
 
 -- The first box of heat release rates reaches to where flames are high enough; then by four fifths.
@@ -75,7 +75,7 @@ area-tests b D Q =
     ∷ ltb (up (D .most * 500) 100) deepest
     ∷ leb (D .width * 2_000_000_000) (D .least)
     ∷ Q .safe
-    ∷ passing relative-distance-bound (over-radius bounds distance-box D)
+    ∷ passing relative-distance-bound (in-radii bounds distance-box D)
     ∷ passing emissive-bound-1 (emissive-power-1 bounds D)
     ∷ sweep (flame-test D (Q .width)) (next-heat D) 100 0 (suc (Q .most))
     ∷ []
@@ -167,7 +167,7 @@ flame-tested E D Q d q a b t i l u e =
     let Q-box = box a b (Q .width) in
     let L = flame-height bounds D Q-box in
     let tall = not-too-low D L in
-    let height : Bool = passing relative-height-bound (over-radius bounds tall D) in
+    let height : Bool = passing relative-height-bound (in-radii bounds tall D) in
     let power : Bool = passing emissive-bound-2 (emissive-power-2 bounds D Q-box tall) in
     let rest : Bool = height && power in
     let test : Bool = elim (ltb (4 * L .most) (D .least)) [ true ↦ true | false ↦ rest ] in
@@ -180,7 +180,7 @@ flame-tested E D Q d q a b t i l u e =
             | inr p ↦
                 let h = known (raised E D L d H tall-enough) in
                 record {
-                  height = passed relative-height-bound (and-l height power p) (over-radius-kept within h (known d));
+                  height = passed relative-height-bound (and-l height power p) (in-radii-kept within h (known d));
                   power = passed emissive-bound-2 (and-r height power p) (emissive-power-2-kept within (known d) heat h);
                 }
           ];
@@ -222,7 +222,7 @@ area-tested a b t n l u E e F =
       unabsorbed = X;
       heat-release = q .given;
       power = passed emissive-bound-1 (c₅ .1 .1 .0) (emissive-power-1-kept within dw);
-      distance = λ lo hi. passed relative-distance-bound (c₅ .1 .0) (over-radius-kept within (known (distance-held (E .distance) lo hi)) dw);
+      distance = λ lo hi. passed relative-distance-bound (c₅ .1 .0) (in-radii-kept within (known (distance-held (E .distance) lo hi)) dw);
       flame =
           swept (flame-test D (Q .width)) (next-heat D) (λ i. i ≡ (heat-release-of answers E) .pair .low → Flame E)
           (flame-tested E D Q d q) 100 0 (suc (Q .most)) (c₅ .1 .1 .1 .0)

@@ -1,5 +1,5 @@
--- An answer whose figures are given is the pair, and no refusal.
--- By cases of the answer. Assumes nothing.
+-- An answer whose figures are given is the pair, and no refusal, whose number is not 0.
+-- Assumes nothing.
 use mathlib.Core.Path.{_≡_, sym, ap, _∙_}
 use native.Mathlib.Omega.{arith}
 use Rattle.pairs.specs.declared.answer.Pair.{Pair}

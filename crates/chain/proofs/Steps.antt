@@ -6,7 +6,7 @@ use lib.Dec.{eqb}
 use Rattle.pairs.specs.Arithmetic.{Arithmetic}
 use Rattle.pairs.proofs.Kept.{Kept, one-kept, atan-kept, pi-kept, exp-neg-kept, ln-ten-kept}
 use Rattle.chain.specs.declared.enquiry.Enquiry.{Enquiry}
-use Rattle.chain.specs.Chain.{diameter, radius, optical-depth, unabsorbed, heat-release, flame-height, emissive-power-1, radiant-fraction, flame-surface, emissive-power-2, emissive-power, over-radius, diameter-of, unabsorbed-of, heat-release-of, flame-height-of, emissive-power-of, relative-height-of, relative-distance-of, x, g, r, u, v, tilt, height-angle, vertical-ratio, vertical, horizontal-ratio, horizontal, factor, radiant-flux}
+use Rattle.chain.specs.Chain.{diameter, radius, optical-depth, unabsorbed, heat-release, flame-height, emissive-power-1, radiant-fraction, flame-surface, emissive-power-2, emissive-power, in-radii, diameter-of, unabsorbed-of, heat-release-of, flame-height-of, emissive-power-of, relative-height-of, relative-distance-of, x, g, r, u, v, tilt, height-angle, vertical-ratio, vertical, horizontal-ratio, horizontal, factor, radiant-flux}
 
 -- The same choice on both sides.
 pub choice-kept : {X Y : Type 0} (R : X → Y → Type 0) (b : Bool) {p q : X} {c d : Y} → R p c → R q d → R (elim b [ true ↦ p | false ↦ q ]) (elim b [ true ↦ c | false ↦ d ])
@@ -43,9 +43,9 @@ module _ {A B : Arithmetic} {R : A .Carrier → B .Carrier → Type 0} (K : Kept
       K .quotient (K .product (K .difference (K .constant 21 100) (K .product (K .constant 34 10000) d)) q)
       (K .sum (K .product (K .product (pi-kept K) d) l) (K .over (K .product (pi-kept K) (K .product d d)) 4))
 
-  pub over-radius-kept : {t D : A .Carrier} {t′ D′ : B .Carrier} → R t t′ → R D D′ → R (over-radius A t D) (over-radius B t′ D′)
-  unfolding over-radius radius
-  over-radius-kept t d = K .quotient t (K .over d 2)
+  pub in-radii-kept : {t D : A .Carrier} {t′ D′ : B .Carrier} → R t t′ → R D D′ → R (in-radii A t D) (in-radii B t′ D′)
+  unfolding in-radii radius
+  in-radii-kept t d = K .quotient t (K .over d 2)
 
   -- ---- step 7
   pub x-kept : {e : A .Carrier} {c : B .Carrier} → R e c → R (x A e) (x B c)
@@ -133,11 +133,11 @@ module _ {A B : Arithmetic} {R : A .Carrier → B .Carrier → Type 0} (K : Kept
 
     relative-height-of-kept : R (relative-height-of A E) (relative-height-of B E)
     unfolding relative-height-of
-    relative-height-of-kept = over-radius-kept flame-height-of-kept diameter-of-kept
+    relative-height-of-kept = in-radii-kept flame-height-of-kept diameter-of-kept
 
     relative-distance-of-kept : R (relative-distance-of A E) (relative-distance-of B E)
     unfolding relative-distance-of
-    relative-distance-of-kept = over-radius-kept (K .constant (E .distance) 1000) diameter-of-kept
+    relative-distance-of-kept = in-radii-kept (K .constant (E .distance) 1000) diameter-of-kept
 
     pub radiant-flux-kept : R (radiant-flux A E) (radiant-flux B E)
     unfolding radiant-flux

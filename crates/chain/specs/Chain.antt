@@ -8,7 +8,7 @@ use Rattle.chain.specs.declared.enquiry.Enquiry.{Enquiry}
 
 module _ (A : Arithmetic) where
   -- ---- the steps, each from what it takes of the steps before it
-  -- 1. "D = root((4a/100)/pi); R = D over 2." (A.2) Here 4a/100 comes as one exact pair.
+  -- 1. "D = root((4a/100)/pi); R = D over 2." (A.2) Here four-areas is 4a/100.
   unfoldable pub diameter : A .Carrier → A .Carrier
   diameter four-areas = A .root (A .quotient four-areas (pi A))
 
@@ -22,7 +22,7 @@ module _ (A : Arithmetic) where
   unfoldable pub unabsorbed : ℕ → A .Carrier → A .Carrier
   unabsorbed k D = exp-neg A (optical-depth k D)
 
-  -- 3. "Q = (m·c·a/1000)·(1-X), in kW; the first factor is taken as one exact pair." (A.3, A.4)
+  -- 3. "Q = (m·c·a/1000)·(1-X), in kW; the first factor is taken as one exact pair." (A.3, A.4) Here it is supply.
   unfoldable pub heat-release : A .Carrier → A .Carrier → A .Carrier
   heat-release supply X = A .product supply (A .difference (one A) X)
 
@@ -49,9 +49,9 @@ module _ (A : Arithmetic) where
   unfoldable pub emissive-power : ℕ → A .Carrier → A .Carrier → A .Carrier → A .Carrier
   emissive-power method D Q L = elim (eqb method 1) [ true ↦ emissive-power-1 D | false ↦ emissive-power-2 D Q L ]
 
-  -- 6. "l = L/R; e = (d/1000)/R."
-  unfoldable pub over-radius : A .Carrier → A .Carrier → A .Carrier
-  over-radius length D = A .quotient length (radius D)
+  -- 6. "l = L/R; e = (d/1000)/R.": a length in radii of the pool.
+  unfoldable pub in-radii : A .Carrier → A .Carrier → A .Carrier
+  in-radii length D = A .quotient length (radius D)
 
   -- 7. "Factor F (B.2, B.4) with x = 1+e, g = e+2, r = root(e/g), u = root(l·l+g·g), v = root(l·l+e·e),
   -- A = atan((r·u)/v)." Here the last is tilt.
@@ -108,27 +108,34 @@ module _ (A : Arithmetic) where
         | false ↦ elim (eqb face 2) [ true ↦ horizontal l e | false ↦ A .larger (vertical l e) (horizontal l e) ]
       ]
 
-  -- ---- the steps of one enquiry
+  -- ---- the steps of one enquiry, with its own numbers
+  -- 1. "4a/100"
   unfoldable pub diameter-of : Enquiry → A .Carrier
   diameter-of E = diameter (A .constant (4 * E .area) 100)
 
+  -- 2. k is the absorption.
   unfoldable pub unabsorbed-of : Enquiry → A .Carrier
   unabsorbed-of E = unabsorbed (E .absorption) (diameter-of E)
 
+  -- 3. "m·c·a/1000"
   unfoldable pub heat-release-of : Enquiry → A .Carrier
   heat-release-of E = heat-release (A .constant (E .rate * E .heat * E .area) 1000) (unabsorbed-of E)
 
+  -- 4. L of the enquiry.
   unfoldable pub flame-height-of : Enquiry → A .Carrier
   flame-height-of E = flame-height (diameter-of E) (heat-release-of E)
 
+  -- 5. E by the method of the enquiry.
   unfoldable pub emissive-power-of : Enquiry → A .Carrier
   emissive-power-of E = emissive-power (E .method) (diameter-of E) (heat-release-of E) (flame-height-of E)
 
+  -- 6. "l = L/R"
   unfoldable pub relative-height-of : Enquiry → A .Carrier
-  relative-height-of E = over-radius (flame-height-of E) (diameter-of E)
+  relative-height-of E = in-radii (flame-height-of E) (diameter-of E)
 
+  -- "e = (d/1000)/R"
   unfoldable pub relative-distance-of : Enquiry → A .Carrier
-  relative-distance-of E = over-radius (A .constant (E .distance) 1000) (diameter-of E)
+  relative-distance-of E = in-radii (A .constant (E .distance) 1000) (diameter-of E)
 
   -- 8. "q = E·F kW/m²." (A.1 in clear air)
   unfoldable pub radiant-flux : Enquiry → A .Carrier

@@ -8,7 +8,7 @@ use lib.Dec.{lit<, lit≤, eqb}
 use Rattle.pairs.specs.Answers.{answers}
 use Rattle.pairs.specs.Series.{pi}
 use Rattle.chain.specs.declared.enquiry.Enquiry.{Enquiry}
-use Rattle.chain.specs.Chain.{diameter, radius, optical-depth, unabsorbed, heat-release, flame-height, emissive-power-1, radiant-fraction, flame-surface, emissive-power-2, emissive-power, over-radius, diameter-of, unabsorbed-of, heat-release-of, flame-height-of, emissive-power-of, relative-height-of, relative-distance-of}
+use Rattle.chain.specs.Chain.{diameter, radius, optical-depth, unabsorbed, heat-release, flame-height, emissive-power-1, radiant-fraction, flame-surface, emissive-power-2, emissive-power, in-radii, diameter-of, unabsorbed-of, heat-release-of, flame-height-of, emissive-power-of, relative-height-of, relative-distance-of}
 use Rattle.exact.specs.Fraction.{_⊑_, whole, _⊗_, _⊘_, power}
 use Rattle.exact.specs.Depth as depth
 use Rattle.exact.specs.Depth.{Bracket, exact}
@@ -130,16 +130,16 @@ module _ (n : ℕ) (deep : 8 ≤ n) (E : Enquiry) where
 
     -- ---- step 6
     pub relative-height-meets : Meets (relative-height-of answers E) (relative-height-of (exact n) E)
-    unfolding relative-height-of over-radius
+    unfolding relative-height-of in-radii
     relative-height-meets = quotient-meets flame-height-meets radius-meets radius-positive
 
     pub relative-distance-meets : Meets (relative-distance-of answers E) (relative-distance-of (exact n) E)
-    unfolding relative-distance-of over-radius
+    unfolding relative-distance-of in-radii
     relative-distance-meets =
         quotient-meets (constant-meets (E .distance) 1000 (lit< tt) (omega arith)) radius-meets radius-positive
 
     pub relative-distance-low : 1000 ≤ E .distance → one-256th ⊑ (relative-distance-of (exact n) E) .low
-    unfolding relative-distance-of over-radius depth.quotient depth.constant
+    unfolding relative-distance-of in-radii depth.quotient depth.constant
     relative-distance-low least =
         least-distance ⟫ ⊘-mono radius-high-above-0 (over-mono 1000 1000 (lit< tt) (le-refl 1000) (whole-mono least)) radius-high
       where

@@ -141,7 +141,7 @@ over-agrees {a} h n =
     (admit-same (a .pair) tail (tested-same no-divisor 61 fits (fitting-same (R.over (a .pair) n))))
     (λ z o. O.over-ordered o n (above-0 n (refuse-passed no-divisor 61 fits (past-admit (a .pair) tail z) .0)))
 
--- An operation whose result is only tested for 64.
+-- An operation that tests 61 and 64 and nothing else, on one pair and on two.
 one-agrees : {a : Figures} {p : Pair} (op : Pair → Pair) → (Ordered (a .pair) → Ordered (op (a .pair))) → Agrees a p → Agrees (after a (admit (a .pair) (fitting (op (a .pair))))) (op p)
 one-agrees {a} op ord h = one-part (admit (a .pair) (fitting (op (a .pair)))) op h (admit-same (a .pair) _ (fitting-same (op (a .pair)))) (λ z. ord)
 

@@ -24,7 +24,7 @@ not-a-pair p (inr (inl e)) = omega arith
 not-a-pair p (inr (inr (inl e))) = omega arith
 not-a-pair p (inr (inr (inr e))) = omega arith
 
--- A refusal stays where a refusal goes through,
+-- A refusal stays in f, where f lets every refusal through.
 pub stays-in : (f : Figures → Figures) → ((n : ℕ) → f (refused (suc n)) ≡ refused (suc n)) → (a : Answer) → Refused a → figures a ≡ f (figures a)
 stays-in f through (Is p) h = absurd (not-a-pair p h)
 stays-in f through Disordered h = sym (through 60)
@@ -32,11 +32,11 @@ stays-in f through ZeroDivisor h = sym (through 61)
 stays-in f through OutOfSpan h = sym (through 62)
 stays-in f through TooLarge h = sym (through 63)
 
--- before anything that follows,
+-- A refusal stays, whatever would follow.
 pub stays : (a : Answer) (f : Figures) → Refused a → figures a ≡ after (figures a) f
 stays a f = stays-in (λ x. after x f) (λ n. refl) a
 
--- and as the second, after a first that gives.
+-- A second answer's refusal stays, after a first that is a pair.
 pub stays-second : (a b : Answer) (p : Pair) (f : Figures) → a ≡ Is p → Refused b → figures b ≡ after (figures a) (after (figures b) f)
 stays-second a b p f e h = rw e (stays b f h)
 

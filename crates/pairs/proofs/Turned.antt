@@ -30,8 +30,8 @@ pub record OnOne (p : Pair) (z : Bool) (r : Pair) (f : Figures) : Type 0 where
   pub is-64 : p .low ≤ p .high → z ≡ false → 2 ^ 64 ≤ r .high → refused 64 ≡ f
   pub is : p .low ≤ p .high → z ≡ false → r .high < 2 ^ 64 → given r ≡ f
 
-on-one : (p : Pair) (z : Bool) (r : Pair) → OnOne p z r (admit p (refuse z (refused 62) (fitting r)))
-on-one p z r =
+one-turned : (p : Pair) (z : Bool) (r : Pair) → OnOne p z r (admit p (refuse z (refused 62) (fitting r)))
+one-turned p z r =
     record {
       is-61 = λ h. sym (disordered p _ h);
       is-62 = λ h d. rw (ordered p (refuse z (refused 62) (fitting r)) h, d);
@@ -47,9 +47,9 @@ pub record OnTwo (p q : Pair) (z : Bool) (r : Pair) (f : Figures) : Type 0 where
   pub is-64 : p .low ≤ p .high → q .low ≤ q .high → z ≡ false → 2 ^ 64 ≤ r .high → refused 64 ≡ f
   pub is : p .low ≤ p .high → q .low ≤ q .high → z ≡ false → r .high < 2 ^ 64 → given r ≡ f
 
-on-two : (p q : Pair) (z : Bool) (r : Pair) → OnTwo p q z r (admit p (admit q (refuse z (refused 62) (fitting r))))
-on-two p q z r =
-    let one = on-one q z r in
+two-turned : (p q : Pair) (z : Bool) (r : Pair) → OnTwo p q z r (admit p (admit q (refuse z (refused 62) (fitting r))))
+two-turned p q z r =
+    let one = one-turned q z r in
     let first : p .low ≤ p .high → admit p (admit q (refuse z (refused 62) (fitting r))) ≡ admit q (refuse z (refused 62) (fitting r)) = ordered p _ in
     record {
       is-61 = λ h. sym (disordered p _ h);
@@ -61,32 +61,32 @@ on-two p q z r =
 
 pub sum-turned : (p q : Pair) → OnTwo p q false (rounded.sum p q) (answers.sum-of p q)
 unfolding answers.sum-of
-sum-turned p q = on-two p q false (rounded.sum p q)
+sum-turned p q = two-turned p q false (rounded.sum p q)
 
 pub difference-turned : (p q : Pair) → OnTwo p q false (rounded.difference p q) (answers.difference-of p q)
 unfolding answers.difference-of
-difference-turned p q = on-two p q false (rounded.difference p q)
+difference-turned p q = two-turned p q false (rounded.difference p q)
 
 pub product-turned : (p q : Pair) → OnTwo p q false (rounded.product p q) (answers.product-of p q)
 unfolding answers.product-of
-product-turned p q = on-two p q false (rounded.product p q)
+product-turned p q = two-turned p q false (rounded.product p q)
 
 pub quotient-turned : (p q : Pair) → OnTwo p q (eqb (q .low) 0) (rounded.quotient p q) (answers.quotient-of p q)
 unfolding answers.quotient-of
-quotient-turned p q = on-two p q (eqb (q .low) 0) (rounded.quotient p q)
+quotient-turned p q = two-turned p q (eqb (q .low) 0) (rounded.quotient p q)
 
 pub times-turned : (p : Pair) (n : ℕ) → OnOne p false (rounded.times p n) (answers.times-of p n)
 unfolding answers.times-of
-times-turned p n = on-one p false (rounded.times p n)
+times-turned p n = one-turned p false (rounded.times p n)
 
 pub over-turned : (p : Pair) (n : ℕ) → OnOne p (eqb n 0) (rounded.over p n) (answers.over-of p n)
 unfolding answers.over-of
-over-turned p n = on-one p (eqb n 0) (rounded.over p n)
+over-turned p n = one-turned p (eqb n 0) (rounded.over p n)
 
 pub root-turned : (p : Pair) → OnOne p false (rounded.root p) (answers.root-of p)
 unfolding answers.root-of
-root-turned p = on-one p false (rounded.root p)
+root-turned p = one-turned p false (rounded.root p)
 
 pub fifth-root-turned : (p : Pair) → OnOne p false (rounded.fifth-root p) (answers.fifth-root-of p)
 unfolding answers.fifth-root-of
-fifth-root-turned p = on-one p false (rounded.fifth-root p)
+fifth-root-turned p = one-turned p false (rounded.fifth-root p)

@@ -38,7 +38,7 @@ fn root_of(a: Answer) -> Answer
     root(p)
 }
 
-fn over_answer(t: Pair, a: Answer) -> Answer
+fn quotient_by(t: Pair, a: Answer) -> Answer
     ensures { λ r. ⌜ figures r ≡ answers .quotient (given t) (figures a) ⌝ }
 {
     let Answer::Is(p) = a else {
@@ -54,7 +54,7 @@ fn half_angle(a: Answer) -> Answer
     let Answer::Is(t) = a else {
         return a;
     };
-    over_answer(t, one_more(root_of(one_more(product(t, t)))))
+    quotient_by(t, one_more(root_of(one_more(product(t, t)))))
 }
 
 // 4 times the arc.

@@ -2,7 +2,7 @@
 -- Assumes nothing.
 use mathlib.Core.Path.{_≡_, sym, ap, ap₂, _∙_}
 use Prim.Native.Nat.{ℕ, _*_, _≤_}
-use mathlib.Core.Bool.{true, false, _&&_}
+use mathlib.Core.Bool.{Bool, true, false, _&&_}
 use Rattle.chain.specs.declared.enquiry.Enquiry.{Enquiry}
 use lib.Dec.{eqb, leb, ltb}
 use Rattle.pairs.specs.declared.answer.Pair.{Pair}
@@ -60,11 +60,14 @@ module _
   unfolding chain.flame-height-of
   height-is = l ∙ ap₂ (chain.flame-height answers) diameter-is heat-is
 
-  flame-test : Limited E → flame-too-low E ≡ ltb (4 * L .pair .low) (D .pair .high)
+  too-low-is : Limited E → flame-too-low E ≡ ltb (4 * L .pair .low) (D .pair .high)
   unfolding flame-too-low
-  flame-test w =
+  too-low-is w =
       let u = within-limits-not-refused E (w .fuel) (w .area) in
       ap₂ (λ (x y : Figures). ltb (4 * x .pair .low) (y .pair .high)) (sym (height-is ∙ u .flame-height-given)) (sym (diameter-is ∙ u .diameter-given))
+
+  all-tests-passed : Limited E → {b : Bool} → b ≡ ltb (4 * L .pair .low) (D .pair .high) → b ≡ false → Tested E
+  all-tests-passed w e f = record { limited = w; flame = too-low-is w ∙ sym e ∙ f }
 
 diameter-requires : tie.Need-diameter-requires
 diameter-requires c κs = between 100 190_000 _ (c .pre .area) .high
@@ -83,7 +86,7 @@ too-low-requires c κs = search needs
 returns : tie.Need-returns
 returns c = let h = c .before .before in
     let w = h .before .before .before .pre in
-    let test = flame-test _ _ _ _ (h .before .before .diameter .ensures) (h .before .heat-release .ensures) (h .flame-height .ensures) w in
+    let test = too-low-is _ _ _ _ (h .before .before .diameter .ensures) (h .before .heat-release .ensures) (h .flame-height .ensures) w in
     low-flame _ w (test ∙ sym (c .before .too-low .ensures) ∙ c .if1 .taken)
 
 radiant-flux-requires : tie.Need-radiant-flux-requires
@@ -100,27 +103,21 @@ returns-2 : tie.Need-returns-2
 returns-2 c = let f = c .before in
     let e = f .before in
     let h = e .before .before in
-    let w = h .before .before .before .pre in
-    let test = flame-test _ _ _ _ (h .before .before .diameter .ensures) (h .before .heat-release .ensures) (h .flame-height .ensures) w in
-    let t : Tested _ = record { limited = w; flame = test ∙ sym (e .before .too-low .ensures) ∙ e .if1 .left } in
+    let t = all-tests-passed _ _ _ _ (h .before .before .diameter .ensures) (h .before .heat-release .ensures) (h .flame-height .ensures) (h .before .before .before .pre) (e .before .too-low .ensures) (e .if1 .left) in
     absurd (never-refused (f .radiant-flux .result) _ (f .radiant-flux .ensures ∙ accepted _ t .flux-given) (c .match .keys2))
 
 printed-requires : tie.Need-printed-requires
 printed-requires c κs = let f = c .before .before .before in
     let e = f .before in
     let h = e .before .before in
-    let w = h .before .before .before .pre in
-    let test = flame-test _ _ _ _ (h .before .before .diameter .ensures) (h .before .heat-release .ensures) (h .flame-height .ensures) w in
-    let t : Tested _ = record { limited = w; flame = test ∙ sym (e .before .too-low .ensures) ∙ e .if1 .left } in
+    let t = all-tests-passed _ _ _ _ (h .before .before .diameter .ensures) (h .before .heat-release .ensures) (h .flame-height .ensures) (h .before .before .before .pre) (e .before .too-low .ensures) (e .if1 .left) in
     small _ _ t (worked _ _ _ t (f .radiant-flux .ensures) (c .before .q .given .1))
 
 returns-3 : tie.Need-returns-3
 returns-3 c = let f = c .before .before .before .before in
     let e = f .before in
     let h = e .before .before in
-    let w = h .before .before .before .pre in
-    let test = flame-test _ _ _ _ (h .before .before .diameter .ensures) (h .before .heat-release .ensures) (h .flame-height .ensures) w in
-    let t : Tested _ = record { limited = w; flame = test ∙ sym (e .before .too-low .ensures) ∙ e .if1 .left } in
+    let t = all-tests-passed _ _ _ _ (h .before .before .diameter .ensures) (h .before .heat-release .ensures) (h .flame-height .ensures) (h .before .before .before .pre) (e .before .too-low .ensures) (e .if1 .left) in
     as-shown _ _ _ t (worked _ _ _ t (f .radiant-flux .ensures) (c .before .before .q .given .1)) (c .printed .ensures)
 
 pub flux-within-spec : {M : Type 1} → statement M

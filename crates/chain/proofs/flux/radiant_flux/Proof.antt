@@ -14,10 +14,10 @@ use Rattle.chain.proofs.flux.radiant_flux.Tie as tie
 fits : {d : ℕ} → d ≤ 200_000 → d * 1_000_000_000 < 2 ^ 64
 fits h = omega arith
 
-emitted :
+same-power :
     (method : ℕ) {D D′ Q Q′ L L′ : Figures} → D ≡ D′ → Q ≡ Q′ → L ≡ L′
     → chain.emissive-power A.answers method D Q L ≡ chain.emissive-power A.answers method D′ Q′ L′
-emitted method d q l = λ i. chain.emissive-power A.answers method (d i) (q i) (l i)
+same-power method d q l = λ i. chain.emissive-power A.answers method (d i) (q i) (l i)
 
 cast-millimetres : tie.Need-cast-millimetres
 cast-millimetres c = search needs
@@ -47,7 +47,7 @@ product-of-requires : tie.Need-product-of-requires
 product-of-requires c κs = search needs
 
 returns : tie.Need-returns
-unfolding chain.radiant-flux chain.emissive-power-of chain.relative-height-of chain.relative-distance-of chain.over-radius chain.radius
+unfolding chain.radiant-flux chain.emissive-power-of chain.relative-height-of chain.relative-distance-of chain.in-radii chain.radius
 returns c =
     let s = c .before .before .before .before in
     let start = s .before .before .before .before in
@@ -59,7 +59,7 @@ returns c =
     let rim = s .exact .ensures ∙ thousandths (start .args .e .distance) (fits (start .pre .1 .1 .1)) in
     let distance = c .before .before .before .quotient-of2 .ensures ∙ ap₂ A.quotient rim radius in
     let factor = c .before .factor-of .ensures ∙ ap₂ (chain.factor A.answers (start .args .e .face)) l distance in
-    let power = c .before .before .emissive-power .ensures ∙ emitted (start .args .e .method) D Q L in
+    let power = c .before .before .emissive-power .ensures ∙ same-power (start .args .e .method) D Q L in
     c .product-of .ensures ∙ ap₂ A.product power factor
 
 pub radiant-flux-spec : {M : Type 1} → statement M

@@ -39,12 +39,12 @@ root-of-requires c κs = search needs
 one-more-requires-2 : tie.Need-one-more-requires-2
 one-more-requires-2 c κs = search needs
 
-over-answer-requires : tie.Need-over-answer-requires
-over-answer-requires c κs = search needs
+quotient-by-requires : tie.Need-quotient-by-requires
+quotient-by-requires c κs = search needs
 
 returns-2 : tie.Need-returns-2
 returns-2 c = let d = c .before .before .before .before in
-    c .over-answer .ensures
+    c .quotient-by .ensures
     ∙ steps _ _ _ _ _ _ (d .before .before .a .given .1) (d .product .ensures) (c .before .before .before .one-more .ensures)
     (c .before .before .root-of .ensures) (c .before .one-more2 .ensures)
 
@@ -58,5 +58,5 @@ half-angle-spec =
     one-more-requires
     root-of-requires
     one-more-requires-2
-    over-answer-requires
+    quotient-by-requires
     returns-2)
