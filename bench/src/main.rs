@@ -1,7 +1,9 @@
-//! Times the operations on pairs, compiled from Rattle, beside Rust's u128 on the same random sequence, and compares their check sums.
+//! Times the operations on pairs, compiled from Rattle, beside Rust's u128 on the same random sequence, and compares their check sums;
+//! then whole sheets.
 //! The one argument is the compiled program `speed`.
 
 mod plain;
+mod sheets;
 
 use plain::{Answer, Pair};
 use std::hint::black_box;
@@ -103,5 +105,9 @@ fn main() {
     if agree.contains(&false) {
         std::process::exit(1);
     }
-    println!("All check sums agree.");
+    println!("All check sums agree.\n");
+    if !sheets::table() {
+        std::process::exit(1);
+    }
+    println!("All bytes agree.");
 }

@@ -9,10 +9,10 @@ use reference::random::{between, next};
 use std::process::exit;
 
 /// How many change requests are in force.
-const REQUESTS: u8 = 0;
+const REQUESTS: u8 = 1;
 
 /// Bytes of a sheet that is longer than any accepted one: the two must agree on those too.
-const LONGEST: usize = 6_000;
+const LONGEST: usize = 8_000;
 
 mod proved {
     extern "C" {

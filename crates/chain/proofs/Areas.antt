@@ -6,6 +6,7 @@ use native.Mathlib.Omega.{arith}
 use lib.Dec.{T}
 use Rattle.chain.proofs.Opened.{opened}
 use Rattle.chain.proofs.Sweep.{sweep, swept}
+use Rattle.chain.proofs.Heat.{heat-width}
 use Rattle.chain.proofs.Flame.{not-too-low, flame-test, next-heat, heat-box, area-test, Fuel, Area, area-tested}
 use Rattle.chain.specs.declared.enquiry.Enquiry.{Enquiry}
 
@@ -13,7 +14,7 @@ abbrev pub next-area : ℕ → ℕ
 next-area a = min (a + a / 2) 190_001
 
 area-sweep : T (sweep area-test next-area 40 100 190_001)
-unfolding opened area-test flame-test not-too-low next-heat heat-box
+unfolding opened area-test flame-test not-too-low next-heat heat-box heat-width
 area-sweep = tt
 
 pub areas : (E : Enquiry) → 100 ≤ E .area → E .area ≤ 190_000 → Fuel E → Area E

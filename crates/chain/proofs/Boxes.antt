@@ -1,7 +1,7 @@
 -- Boxes for the sweeps, and what is known of an answer: inside a box, inside a wider bound, a constant of the enquiry.
 -- Assumes nothing.
 use mathlib.Core.Path.{_≡_, ap, subst, sym}
-use mathlib.Core.Bool.{Bool, true, _&&_}
+use mathlib.Core.Bool.{Bool, true, false, _&&_}
 use mathlib.Core.List.{List, [], _∷_}
 use Prim.Native.Nat.{ℕ, suc, _+_, _^_, _≤_, _<_}
 use native.Mathlib.Nat.{le-trans, lt-of-le-of-lt}
@@ -34,6 +34,11 @@ known h = record { where-safe = λ _. h }
 
 pub below-last : {f : Figures} {b : Bound} → Held f b → f .pair .low < suc (b .most)
 below-last {f} {b} h = omega (arith, h .inside .ordered, h .inside .high)
+
+-- A choice of two that are both bounded so.
+pub either-held : (b : Bool) {f g : Figures} {c : Bound} → Held f c → Held g c → Held (elim b [ true ↦ f | false ↦ g ]) c
+either-held true h k = h
+either-held false h k = k
 
 -- Inside a bound, so inside a wider one.
 pub loosen : {f : Figures} {b : Bound} (c : Bound) → c .least ≤ b .least → b .most ≤ c .most → b .width ≤ c .width → Held f b → Held f c

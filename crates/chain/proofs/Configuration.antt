@@ -1,105 +1,120 @@
--- The configuration factor of every l from 0.4 to 17.5 and e from 0.04 to 400 is not refused, and how wide it is on each face.
--- By one sweep over l and e. Assumes nothing.
-use mathlib.Core.Path.{_≡_, refl}
-use mathlib.Core.Bool.{Bool, true, false, _&&_}
-use Prim.Native.Nat.{ℕ, suc, _+_, _*_, _-_, _/_, _≤_}
+-- Step 7 for a target at any height: nothing refuses where l, h and e lie in the spans that follow, and how large the factor is.
+-- By one sweep over y and e with large boxes, which show ranges and no widths. Assumes nothing.
+use mathlib.Core.Path.{_≡_}
+use mathlib.Core.Bool.{Bool, true, false}
+use Prim.Native.Nat.{ℕ, _+_, _*_, _-_, _/_, _≤_, zero-le}
+use native.Mathlib.Nat.{le-refl}
+use native.Mathlib.Omega.{arith}
 use lib.Dec.{T, eqb}
-use lib.Ieee.Fits.{and-l, and-r}
 use Rattle.pairs.specs.Rounded.{U}
 use Rattle.pairs.specs.Figures.{Figures}
 use Rattle.pairs.specs.Answers.{answers}
-use Rattle.chain.specs.Chain.{vertical, horizontal, factor}
-use Rattle.chain.proofs.Bounds.{Bound, bounds, bound, larger}
-use Rattle.chain.proofs.Within.{Held, Within, within}
-use Rattle.chain.proofs.Steps.{choice-kept}
-use Rattle.chain.proofs.FactorRun.{Row, RowKept, row-run, faces-run, row-run-kept, upright-kept, level-kept}
-use Rattle.chain.proofs.Boxes.{box, boxed, known, below-last, passing, passed}
+use Rattle.chain.specs.Chain.{vertical, horizontal, by-face, vertical-above, horizontal-above, vertical-below, horizontal-below, factor-at}
+use Rattle.chain.specs.Private.{Spaced}
+use Rattle.chain.proofs.Bounds as B
+use Rattle.chain.proofs.Bounds.{Bound, bound}
+use Rattle.chain.proofs.Within.{Held, within}
+use Rattle.chain.proofs.Boxes.{known, passing, passed, either-held}
 use Rattle.chain.proofs.Opened.{opened}
-use Rattle.chain.proofs.Sweep.{sweep, swept}
+use Rattle.chain.proofs.FactorSweep.{Grid, box-test, height-sweep, factor-sweep, Factors, factors}
 
--- Where l and e lie, and how wide they may be.
+-- ---- where l, h and e lie, and how wide they may be
 abbrev pub relative-height-bound : Bound
 relative-height-bound = record { least = 400_000_000_000; most = 17_499_999_999_999; width = 1_300_000; safe = true }
+
+abbrev pub elevation-bound : Bound
+elevation-bound = record { least = 0; most = 36 * U; width = 6_000; safe = true }
 
 abbrev pub relative-distance-bound : Bound
 relative-distance-bound = record { least = 40_000_000_000; most = 400_000_000_000_000; width = 60_000; safe = true }
 
--- What the factor is then, on each face.
+-- y is h, l-h, h-l or l+h.
+abbrev pub seen-bound : Bound
+seen-bound = record { least = 0; most = 54 * U; width = 1_306_000; safe = true }
+
+-- ---- the factors of one y
 abbrev pub vertical-bound : Bound
-vertical-bound = record { least = 0; most = 4 * U; width = 12_000_000; safe = true }
+vertical-bound = record { least = 0; most = 17 * U; width = 2 * U; safe = true }
 
 abbrev pub horizontal-bound : Bound
-horizontal-bound = record { least = 0; most = U; width = 9_500_000; safe = true }
-
-unfoldable pub factor-bound : ℕ → Bound
-factor-bound face =
-    elim (eqb face 1) [ true ↦ vertical-bound | false ↦ elim (eqb face 2) [ true ↦ horizontal-bound | false ↦ vertical-bound ] ]
-
--- l from a to b, in the row of e.
-unfoldable pub box-test : Row bounds → ℕ → ℕ → Bool
-box-test E a b =
-    let F = faces-run bounds E (box a b (relative-height-bound .width)) in
-    passing vertical-bound (F .upright) && passing horizontal-bound (F .level)
-
--- e from c to d.
-abbrev row-of : ℕ → ℕ → Row bounds
-row-of c d = row-run bounds (box c d (relative-distance-bound .width))
-
-abbrev pub next-distance : ℕ → ℕ
-next-distance e = e + e / 2
+horizontal-bound = record { least = 0; most = U; width = 2 * U; safe = true }
 
 -- Longer boxes where the target is farther than the radius.
-abbrev pub next-height : ℕ → ℕ → ℕ
-next-height e l = l + l / 4 + (e - U) * 3 / 4
-
-unfoldable pub height-sweep : ℕ → ℕ → Bool
-height-sweep c d = sweep (box-test (row-of c d)) (next-height c) 40 (relative-height-bound .least) (suc (relative-height-bound .most))
-
-factor-sweep : T (sweep height-sweep next-distance 40 (relative-distance-bound .least) (suc (relative-distance-bound .most)))
-unfolding opened height-sweep box-test
-factor-sweep = tt
-
-record Factors (l e : Figures) : Type 0 where
-  upright : Held (vertical answers l e) vertical-bound
-  level : Held (horizontal answers l e) horizontal-bound
-
-abbrev Height : Figures → ℕ → Type 0
-Height e i = (l : Figures) → l .pair .low ≡ i → Held l relative-height-bound → Factors l e
-
-abbrev Distance : ℕ → Type 0
-Distance j = (l e : Figures) → e .pair .low ≡ j → Held l relative-height-bound → Held e relative-distance-bound → Factors l e
-
-tested : (E : Row bounds) (e : Figures) → RowKept answers bounds Within e E → (a b : ℕ) → T (box-test E a b) → (i : ℕ) → a ≤ i → i ≤ b → Height e i
-unfolding box-test
-tested E e k a b t i p q l eq h =
-    let L = boxed {f = l} a b h (rw eq p) (rw eq q) in
-    let F = faces-run bounds E (box a b (relative-height-bound .width)) in
-    let upright : Bool = passing vertical-bound (F .upright) in
-    let level : Bool = passing horizontal-bound (F .level) in
+abbrev coarse : Grid
+coarse =
     record {
-      upright = passed vertical-bound (and-l upright level t) (upright-kept within L k);
-      level = passed horizontal-bound (and-r upright level t) (level-kept within L k);
+      lowest = 0;
+      highest = 54 * U;
+      distance-width = λ e. 60_000;
+      height-width = λ e. 1_306_000;
+      next-distance = λ e. e + e * 3 / 4;
+      next-height = λ e y. y + y / 3 + e * 3 / 4 + (e - U) * 3 / 4;
+      upright = vertical-bound;
+      level = horizontal-bound;
     }
 
-row : (c d : ℕ) → T (height-sweep c d) → (j : ℕ) → c ≤ j → j ≤ d → Distance j
-unfolding height-sweep
-row c d t j p q l e eq h k =
-    let E = row-run-kept within (boxed {f = e} c d k (rw eq p) (rw eq q)) in
-    swept (box-test (row-of c d)) (next-height c) (Height e) (tested (row-of c d) e E) 40 (relative-height-bound .least) (suc (relative-height-bound .most)) t (l .pair .low)
-    (h .inside .low) (below-last h) l refl h
+coarse-sweep : T (factor-sweep coarse)
+unfolding opened factor-sweep height-sweep box-test
+coarse-sweep = tt
 
-factors : {l e : Figures} → Held l relative-height-bound → Held e relative-distance-bound → Factors l e
-factors {l} {e} h k =
-    swept height-sweep next-distance Distance row 40 (relative-distance-bound .least) (suc (relative-distance-bound .most)) factor-sweep (e .pair .low)
-    (k .inside .low) (below-last k) l e refl h k
+pub one-factor : {y e : Figures} → Held y seen-bound → Spaced e → Factors coarse y e
+one-factor {y} {e} h k =
+    let i = h .inside in
+    factors coarse (λ a b h. le-refl _) (λ a b h. le-refl _) coarse-sweep
+    (record {
+      distance-given = k .given;
+      distance-low = k .least;
+      distance-ordered = k .ordered;
+      distance-high = omega (arith, k .ordered, k .most);
+      distance-near = k .near;
+      height-given = h .given;
+      height-ordered = i .ordered;
+      height-low = zero-le;
+      height-high = omega (arith, i .ordered, i .high);
+      height-near = i .near;
+    })
 
--- The larger of two factors is bounded as the vertical one is.
-worst-held : {f g : Figures} → Held f vertical-bound → Held g horizontal-bound → Held (answers .larger f g) vertical-bound
-unfolding passing larger bound
-worst-held h k = passed vertical-bound tt (within .larger (known h) (known k))
+pub spaced : {e : Figures} → Held e relative-distance-bound → Spaced e
+spaced h =
+    let i = h .inside in
+    record { given = h .given; least = i .low; ordered = i .ordered; most = i .high; near = i .near }
 
-pub factor-held : (face : ℕ) {l e : Figures} → Held l relative-height-bound → Held e relative-distance-bound → Held (factor answers face l e) (factor-bound face)
-unfolding factor factor-bound
-factor-held face h k =
-    let F = factors h k in
-    choice-kept Held (eqb face 1) (F .upright) (choice-kept Held (eqb face 2) (F .level) (worst-held (F .upright) (F .level)))
+-- ---- the factor of a face at a height
+-- From the base up the vertical factor is at most the sum of two.
+abbrev pub factor-bound : Bound
+factor-bound = record { least = 0; most = 34 * U; width = 6 * U; safe = true }
+
+by-face-held : (face : ℕ) {f g : Figures} → Held f factor-bound → Held g factor-bound → Held (by-face answers face f g) factor-bound
+unfolding by-face passing B.larger bound
+by-face-held face p q =
+    either-held (eqb face 1) p (either-held (eqb face 2) q (passed factor-bound tt (within .larger (known p) (known q))))
+
+module _ (l : Figures) {h e : Figures} (E : Spaced e) (H : Held h seen-bound) where
+  pub above-held :
+      Held (answers .difference l h) seen-bound → Held (answers .difference h l) seen-bound → (face : ℕ)
+      → Held (factor-at answers true face l h e) factor-bound
+  unfolding factor-at vertical-above horizontal-above passing B.sum B.difference bound
+  above-held between beyond face =
+      let f = one-factor between E in
+      by-face-held face
+      (passed factor-bound tt
+      (within .difference (within .sum (known (one-factor H E .upright)) (known (f .upright))) (known (one-factor beyond E .upright))))
+      (passed factor-bound tt (known (f .level)))
+
+  below-held : Held (answers .sum l h) seen-bound → (face : ℕ) → Held (factor-at answers false face l h e) factor-bound
+  unfolding factor-at vertical-below horizontal-below passing B.difference bound
+  below-held together face =
+      let f = one-factor together E in
+      let g = one-factor H E in
+      by-face-held face (passed factor-bound tt (within .difference (known (f .upright)) (known (g .upright))))
+      (passed factor-bound tt (within .difference (known (f .level)) (known (g .level))))
+
+pub factor-at-held :
+    {l h e : Figures} → Held l relative-height-bound → Held h elevation-bound → Spaced e → (up : Bool) (face : ℕ)
+    → Held (factor-at answers up face l h e) factor-bound
+unfolding passing B.sum B.difference bound
+factor-at-held {l} L H E true face =
+    above-held l E (passed seen-bound tt (known H)) (passed seen-bound tt (within .difference (known L) (known H)))
+    (passed seen-bound tt (within .difference (known H) (known L))) face
+factor-at-held {l} L H E false face =
+    below-held l E (passed seen-bound tt (known H)) (passed seen-bound tt (within .sum (known L) (known H))) face

@@ -1,10 +1,11 @@
--- exp(-y) of every optical depth y that the limits allow is not refused, at most 1 and at most 8,000 trillionths wide.
--- By one sweep over y from 0.1 to 250. Assumes nothing.
+-- exp(-y) of every optical depth y that the limits allow is not refused, at most 8,000 trillionths wide, and below 1 by half of
+-- y or by a half. By one sweep over y from 0.1 to 250. Assumes nothing.
 use mathlib.Core.Path.{_≡_, refl}
-use mathlib.Core.Bool.{Bool, true}
+use mathlib.Core.Bool.{Bool, true, _&&_}
 use Prim.Native.Nat.{ℕ, _+_, _/_, _≤_, _<_, min}
 use native.Mathlib.Omega.{arith}
-use lib.Dec.{T}
+use lib.Dec.{T, leb, leb→le}
+use lib.Ieee.Fits.{and-l, and-r}
 use Rattle.pairs.specs.Rounded.{U}
 use Rattle.pairs.specs.Figures.{Figures}
 use Rattle.pairs.specs.Answers.{answers}
@@ -12,7 +13,7 @@ use Rattle.pairs.specs.Series.{exp-neg}
 use Rattle.pairs.proofs.Kept.{exp-neg-kept}
 use Rattle.chain.proofs.Bounds.{Bound, bounds}
 use Rattle.chain.proofs.Within.{Held, within}
-use Rattle.chain.proofs.Boxes.{box, in-box, passing, passed}
+use Rattle.chain.proofs.Boxes.{box, in-box, passing, tests-passed, passed}
 use Rattle.chain.proofs.Opened.{opened}
 use Rattle.chain.proofs.Sweep.{sweep, swept}
 
@@ -29,8 +30,12 @@ shallowest = 100_000_000_000
 abbrev pub deepest : ℕ
 deepest = 250_000_000_000_000
 
+-- What 1 - exp(-y) is at least.
+abbrev pub burnt : ℕ → ℕ
+burnt y = min y U / 2
+
 unfoldable pub exp-test : ℕ → ℕ → Bool
-exp-test a b = passing exp-bound (exp-neg bounds (box a b (spread b)))
+exp-test a b = let X = exp-neg bounds (box a b (spread b)) in passing exp-bound X && leb (X .most + burnt b) U
 
 abbrev pub next-depth : ℕ → ℕ
 next-depth y = min (y + y / 2) deepest
@@ -45,14 +50,23 @@ pub record Depth (y : Figures) : Type 0 where
   pub ordered : y .pair .low ≤ y .pair .high
   pub near : y .pair .high ≤ y .pair .low + spread (y .pair .low)
 
+pub record Unabsorbed (y : Figures) : Type 0 where
+  pub held : Held (exp-neg answers y) exp-bound
+  pub below-one : (exp-neg answers y) .pair .high + burnt (y .pair .low) ≤ U
+
 abbrev Exponential : ℕ → Type 0
-Exponential i = (y : Figures) → Depth y → y .pair .low ≡ i → Held (exp-neg answers y) exp-bound
+Exponential i = (y : Figures) → Depth y → y .pair .low ≡ i → Unabsorbed y
 
 tested : (a b : ℕ) → T (exp-test a b) → (i : ℕ) → a ≤ i → i ≤ b → Exponential i
 unfolding exp-test
 tested a b t i l u y d e =
+    let X = exp-neg bounds (box a b (spread b)) in
     let near : y .pair .high ≤ y .pair .low + spread b = omega (arith, d .near, e) in
-    passed exp-bound t (exp-neg-kept within (in-box a b (spread b) (d .given) (rw e l) (rw e u) (d .ordered) near))
+    let x = exp-neg-kept within (in-box a b (spread b) (d .given) (rw e l) (rw e u) (d .ordered) near) in
+    let t₁ = and-l (passing exp-bound X) (leb (X .most + burnt b) U) t in
+    let h = x .where-safe (tests-passed exp-bound X t₁ .safe) in
+    let most : X .most + burnt b ≤ U = leb→le (X .most + burnt b) U (and-r (passing exp-bound X) (leb (X .most + burnt b) U) t) in
+    record { held = passed exp-bound t₁ x; below-one = omega (arith, h .inside .high, most, e) }
 
-pub exp-held : (y : Figures) → Depth y → shallowest ≤ y .pair .low → y .pair .low < deepest → Held (exp-neg answers y) exp-bound
-exp-held y d l u = swept exp-test next-depth Exponential tested 40 shallowest deepest exp-sweep (y .pair .low) l u y d refl
+pub unabsorbed : (y : Figures) → Depth y → shallowest ≤ y .pair .low → y .pair .low < deepest → Unabsorbed y
+unabsorbed y d l u = swept exp-test next-depth Exponential tested 40 shallowest deepest exp-sweep (y .pair .low) l u y d refl

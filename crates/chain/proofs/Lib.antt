@@ -7,11 +7,15 @@ pub mod FactorRun
 pub mod Boxes
 pub mod Opened
 pub mod Exponential
+pub mod FactorSweep
 pub mod Configuration
+pub mod Heat
+pub mod Radii
 pub mod Flame
 pub mod Areas
 pub mod Limits
 pub mod Accepted
+pub mod Level
 pub mod FactorAlone
 pub mod Examples
 pub mod Given

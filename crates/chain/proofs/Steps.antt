@@ -3,10 +3,12 @@
 use mathlib.Core.Bool.{Bool, true, false}
 use Prim.Native.Nat.{ℕ, _*_}
 use lib.Dec.{eqb}
+use lib.IntN.{natAbs}
+use lib.Signed.{nonNeg}
 use Rattle.pairs.specs.Arithmetic.{Arithmetic}
 use Rattle.pairs.proofs.Kept.{Kept, one-kept, atan-kept, pi-kept, exp-neg-kept, ln-ten-kept}
 use Rattle.chain.specs.declared.enquiry.Enquiry.{Enquiry}
-use Rattle.chain.specs.Chain.{diameter, radius, optical-depth, unabsorbed, heat-release, flame-height, emissive-power-1, radiant-fraction, flame-surface, emissive-power-2, emissive-power, in-radii, diameter-of, unabsorbed-of, heat-release-of, flame-height-of, emissive-power-of, relative-height-of, relative-distance-of, x, g, r, u, v, tilt, height-angle, vertical-ratio, vertical, horizontal-ratio, horizontal, factor, radiant-flux}
+use Rattle.chain.specs.Chain.{diameter, radius, optical-depth, unabsorbed, heat-release, flame-height, emissive-power-1, radiant-fraction, flame-surface, emissive-power-2, emissive-power, in-radii, diameter-of, unabsorbed-of, heat-release-of, flame-height-of, emissive-power-of, relative-height-of, relative-distance-of, relative-elevation-of, x, g, r, u, v, tilt, height-angle, vertical-ratio, vertical, horizontal-ratio, horizontal, by-face, factor, vertical-above, horizontal-above, vertical-below, horizontal-below, factor-at, configuration-factor-of, radiant-flux}
 
 -- The same choice on both sides.
 pub choice-kept : {X Y : Type 0} (R : X → Y → Type 0) (b : Bool) {p q : X} {c d : Y} → R p c → R q d → R (elim b [ true ↦ p | false ↦ q ]) (elim b [ true ↦ c | false ↦ d ])
@@ -101,11 +103,25 @@ module _ {A B : Arithmetic} {R : A .Carrier → B .Carrier → Type 0} (K : Kept
       (K .difference (atan-kept K (K .root (K .quotient (g-kept k) k))) (K .product (horizontal-ratio-kept h k) (tilt-kept h k)))
       (pi-kept K)
 
+  pub by-face-kept : (face : ℕ) {p q : A .Carrier} {b c : B .Carrier} → R p b → R q c → R (by-face A face p q) (by-face B face b c)
+  unfolding by-face
+  by-face-kept face h k = choice-kept R (eqb face 1) h (choice-kept R (eqb face 2) k (K .larger h k))
+
   pub factor-kept : (face : ℕ) {l e : A .Carrier} {b c : B .Carrier} → R l b → R e c → R (factor A face l e) (factor B face b c)
   unfolding factor
-  factor-kept face h k =
-      choice-kept R (eqb face 1) (vertical-kept h k)
-      (choice-kept R (eqb face 2) (horizontal-kept h k) (K .larger (vertical-kept h k) (horizontal-kept h k)))
+  factor-kept face h k = by-face-kept face (vertical-kept h k) (horizontal-kept h k)
+
+  pub factor-at-kept :
+      (up : Bool) (face : ℕ) {l h e : A .Carrier} {b a c : B .Carrier} → R l b → R h a → R e c
+      → R (factor-at A up face l h e) (factor-at B up face b a c)
+  unfolding factor-at vertical-above horizontal-above vertical-below horizontal-below
+  factor-at-kept up face p q k =
+      choice-kept R up
+      (by-face-kept face
+      (K .difference (K .sum (vertical-kept q k) (vertical-kept (K .difference p q) k)) (vertical-kept (K .difference q p) k))
+      (horizontal-kept (K .difference p q) k))
+      (by-face-kept face (K .difference (vertical-kept (K .sum p q) k) (vertical-kept q k))
+      (K .difference (horizontal-kept (K .sum p q) k) (horizontal-kept q k)))
 
   -- ---- the chain of one enquiry
   module _ (E : Enquiry) where
@@ -125,20 +141,29 @@ module _ {A B : Arithmetic} {R : A .Carrier → B .Carrier → Type 0} (K : Kept
     unfolding flame-height-of
     flame-height-of-kept = flame-height-kept diameter-of-kept heat-release-of-kept
 
-    emissive-power-of-kept : R (emissive-power-of A E) (emissive-power-of B E)
+    pub emissive-power-of-kept : R (emissive-power-of A E) (emissive-power-of B E)
     unfolding emissive-power-of emissive-power
     emissive-power-of-kept =
         choice-kept R (eqb (E .method) 1) (emissive-power-1-kept diameter-of-kept)
         (emissive-power-2-kept diameter-of-kept heat-release-of-kept flame-height-of-kept)
 
-    relative-height-of-kept : R (relative-height-of A E) (relative-height-of B E)
+    pub relative-height-of-kept : R (relative-height-of A E) (relative-height-of B E)
     unfolding relative-height-of
     relative-height-of-kept = in-radii-kept flame-height-of-kept diameter-of-kept
 
-    relative-distance-of-kept : R (relative-distance-of A E) (relative-distance-of B E)
+    pub relative-distance-of-kept : R (relative-distance-of A E) (relative-distance-of B E)
     unfolding relative-distance-of
     relative-distance-of-kept = in-radii-kept (K .constant (E .distance) 1000) diameter-of-kept
 
+    relative-elevation-of-kept : R (relative-elevation-of A E) (relative-elevation-of B E)
+    unfolding relative-elevation-of
+    relative-elevation-of-kept = in-radii-kept (K .constant (natAbs (E .height)) 1000) diameter-of-kept
+
+    configuration-factor-of-kept : R (configuration-factor-of A E) (configuration-factor-of B E)
+    unfolding configuration-factor-of
+    configuration-factor-of-kept =
+        factor-at-kept (nonNeg (E .height)) (E .face) relative-height-of-kept relative-elevation-of-kept relative-distance-of-kept
+
     pub radiant-flux-kept : R (radiant-flux A E) (radiant-flux B E)
     unfolding radiant-flux
-    radiant-flux-kept = K .product emissive-power-of-kept (factor-kept (E .face) relative-height-of-kept relative-distance-of-kept)
+    radiant-flux-kept = K .product emissive-power-of-kept configuration-factor-of-kept

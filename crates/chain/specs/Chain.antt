@@ -1,7 +1,9 @@
--- Document 01, "Chain": steps 1 to 8 over any arithmetic, each with its formula in ISO 24678-7.
+-- Document 01, "Chain": steps 1 to 8 over any arithmetic, each with its formula in ISO 24678-7; with the heights of request 1.
 use Prim.Native.Nat.{ℕ, _*_}
-use mathlib.Core.Bool.{true, false}
+use mathlib.Core.Bool.{Bool, true, false}
 use lib.Dec.{eqb}
+use lib.IntN.{natAbs}
+use lib.Signed.{nonNeg}
 use Rattle.pairs.specs.Arithmetic.{Arithmetic}
 use Rattle.pairs.specs.Series.{one, atan, pi, exp-neg, ln-ten}
 use Rattle.chain.specs.declared.enquiry.Enquiry.{Enquiry}
@@ -101,11 +103,38 @@ module _ (A : Arithmetic) where
       (pi A)
 
   -- "face 1 (vertical), 2 (horizontal, looking up) or 3 (worst)"; "worst: the larger low end and the larger high end of the two."
-  unfoldable pub factor : ℕ → A .Carrier → A .Carrier → A .Carrier
-  factor face l e =
+  unfoldable pub by-face : ℕ → A .Carrier → A .Carrier → A .Carrier
+  by-face face upright level =
       elim (eqb face 1) [
-        | true ↦ vertical l e
-        | false ↦ elim (eqb face 2) [ true ↦ horizontal l e | false ↦ A .larger (vertical l e) (horizontal l e) ]
+        | true ↦ upright
+        | false ↦ elim (eqb face 2) [ true ↦ level | false ↦ A .larger upright level ]
+      ]
+
+  unfoldable pub factor : ℕ → A .Carrier → A .Carrier → A .Carrier
+  factor face l e = by-face face (vertical l e) (horizontal l e)
+
+  -- Request 1: "With h the height in metres over R, f(y) step 7's factor of that face with y in l's place, and each
+  -- difference raised to 0: from the base up, the vertical factor is f(h) + f(l-h) - f(h-l) and the horizontal one f(l-h)."
+  unfoldable pub vertical-above : A .Carrier → A .Carrier → A .Carrier → A .Carrier
+  vertical-above l h e =
+      A .difference (A .sum (vertical h e) (vertical (A .difference l h) e)) (vertical (A .difference h l) e)
+
+  unfoldable pub horizontal-above : A .Carrier → A .Carrier → A .Carrier → A .Carrier
+  horizontal-above l h e = horizontal (A .difference l h) e
+
+  -- "Below the base, each is f(l+|h|) - f(|h|)." Here h is |h|.
+  unfoldable pub vertical-below : A .Carrier → A .Carrier → A .Carrier → A .Carrier
+  vertical-below l h e = A .difference (vertical (A .sum l h) e) (vertical h e)
+
+  unfoldable pub horizontal-below : A .Carrier → A .Carrier → A .Carrier → A .Carrier
+  horizontal-below l h e = A .difference (horizontal (A .sum l h) e) (horizontal h e)
+
+  -- The factor of a face, for a target from the base up or below it.
+  unfoldable pub factor-at : Bool → ℕ → A .Carrier → A .Carrier → A .Carrier → A .Carrier
+  factor-at from-the-base-up face l h e =
+      elim from-the-base-up [
+        | true ↦ by-face face (vertical-above l h e) (horizontal-above l h e)
+        | false ↦ by-face face (vertical-below l h e) (horizontal-below l h e)
       ]
 
   -- ---- the steps of one enquiry, with its own numbers
@@ -137,6 +166,15 @@ module _ (A : Arithmetic) where
   unfoldable pub relative-distance-of : Enquiry → A .Carrier
   relative-distance-of E = in-radii (A .constant (E .distance) 1000) (diameter-of E)
 
+  -- Request 1: "h the height in metres over R"; its magnitude, |h| below the base.
+  unfoldable pub relative-elevation-of : Enquiry → A .Carrier
+  relative-elevation-of E = in-radii (A .constant (natAbs (E .height)) 1000) (diameter-of E)
+
+  -- 7. F at the height of the target: "from the base up" where the height is not negative.
+  unfoldable pub configuration-factor-of : Enquiry → A .Carrier
+  configuration-factor-of E =
+      factor-at (nonNeg (E .height)) (E .face) (relative-height-of E) (relative-elevation-of E) (relative-distance-of E)
+
   -- 8. "q = E·F kW/m²." (A.1 in clear air)
   unfoldable pub radiant-flux : Enquiry → A .Carrier
-  radiant-flux E = A .product (emissive-power-of E) (factor (E .face) (relative-height-of E) (relative-distance-of E))
+  radiant-flux E = A .product (emissive-power-of E) (configuration-factor-of E)

@@ -2,6 +2,8 @@
 use Prim.Native.Nat.{ℕ, _*_}
 use mathlib.Core.Bool.{Bool, true, false, _&&_, not}
 use lib.Dec.{leb, ltb, eqb}
+use lib.IntN.{ℤ, natAbs}
+use lib.Signed.{nonNeg}
 use Rattle.pairs.specs.Rounded.{U, down, up, rounded}
 use Rattle.pairs.specs.Figures.{refuse}
 use Rattle.pairs.specs.Answers.{answers}
@@ -29,6 +31,7 @@ number-of turned.Area = 12
 number-of turned.Method = 13
 number-of turned.Distance = 14
 number-of turned.Face = 15
+number-of turned.Height = 18
 number-of turned.LowFlame = 16
 number-of turned.TooLarge = 17
 
@@ -46,6 +49,11 @@ outside least most n = not (leb least n && leb n most)
 unfoldable pub fuel-within : Enquiry → Bool
 fuel-within E =
     not (outside 10 150 (E .rate)) && not (outside 10 500 (E .absorption)) && not (outside 100 500 (E .heat))
+
+-- Request 1: "from -5,000 to 20,000 mm".
+unfoldable pub height-outside : ℤ → Bool
+height-outside height =
+    elim (nonNeg height) [ true ↦ outside 0 20_000 (natAbs height) | false ↦ outside 0 5_000 (natAbs height) ]
 
 -- "16, flame too low, exactly when 4·L.low is under D.high"
 unfoldable pub flame-too-low : Enquiry → Bool
@@ -65,6 +73,7 @@ high-of E = up (1000 * (radiant-flux rounded E) .high) U
 unfoldable pub note-of : Enquiry → ℕ
 note-of E = elim (eqb (E .method) 1 && leb (low-of E) 5000) [ true ↦ 1 | false ↦ 0 ]
 
+-- "11 .. 15", then request 1's "18, height outside its limits, after 15 and before 16".
 unfoldable pub flux-of : Enquiry → Shown
 flux-of E =
     refuse (not (fuel-within E)) (refused 11)
@@ -72,6 +81,7 @@ flux-of E =
     (refuse (outside 1 2 (E .method)) (refused 13)
     (refuse (outside 1_000 200_000 (E .distance)) (refused 14)
     (refuse (outside 1 3 (E .face)) (refused 15)
+    (refuse (height-outside (E .height)) (refused 18)
     (refuse (flame-too-low E) (refused 16)
     (refuse (stage-too-large E) (refused 17)
-    (record { state = 0; low = low-of E; high = high-of E; note = note-of E })))))))
+    (record { state = 0; low = low-of E; high = high-of E; note = note-of E }))))))))

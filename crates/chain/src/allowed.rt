@@ -1,4 +1,6 @@
 // The limits of an enquiry's numbers, limits included.
+use super::elevation::from_base_up;
+use super::elevation::magnitude;
 use super::enquiry::Enquiry;
 ghost use mathlib.Core.Path.{_≡_};
 ghost use Rattle.chain.specs.Flux as flux;
@@ -25,4 +27,15 @@ pub(crate) fn fuel_within(e: Enquiry) -> bool
         return false;
     }
     true
+}
+
+// -5,000 to 20,000 mm.
+pub(crate) fn height_outside(height: i32) -> bool
+    ensures { λ r. ⌜ r ≡ flux.height-outside height ⌝ }
+{
+    let n = magnitude(height) as u64;
+    if from_base_up(height) {
+        return outside(n, 0, 20_000);
+    }
+    outside(n, 0, 5_000)
 }

@@ -17,6 +17,8 @@ pub struct Enquiry {
     pub distance: u32,
     // 1 vertical, 2 horizontal, 3 worst
     pub face: u8,
+    // height of the target above the flame's base, mm; negative below it
+    pub height: i32,
 }
 
 // Low and high in W/m², and the note.
@@ -26,13 +28,14 @@ pub struct Printed {
     pub note: u8,
 }
 
-// Why an enquiry is turned back: 11 to 17 of document 01, in this order.
+// Why an enquiry is turned back: 11 to 15, 18, 16 and 17 of documents 01 and 02, in this order.
 pub enum Turned {
     Fuel,
     Area,
     Method,
     Distance,
     Face,
+    Height,
     LowFlame,
     TooLarge,
 }

@@ -1,4 +1,5 @@
-// Step 7: the configuration factor of a vertical, a horizontal or the worst face.
+// Step 7: the configuration factor of a vertical, a horizontal or the worst face, at any height of the target.
+// What depends on e alone is worked once for all factors of a target, and u, v and A once for both faces.
 use super::allowed::outside;
 use super::enquiry::Factor;
 use super::enquiry::Outside;
@@ -13,11 +14,14 @@ use super::lifted::root_of;
 use super::lifted::sum_of;
 use pairs::answer::Answer;
 ghost use mathlib.Core.Path.{_≡_};
-ghost use Rattle.pairs.specs.Figures.{figures};
+ghost use mathlib.Core.Bool.{true, false};
+ghost use Rattle.pairs.specs.Rounded.{ends};
+ghost use Rattle.pairs.specs.Figures.{figures, given};
 ghost use Rattle.pairs.specs.Answers.{answers};
+ghost use Rattle.pairs.specs.Series.{atan};
 ghost use Rattle.chain.specs.Chain as chain;
 ghost use Rattle.chain.specs.Factor as alone;
-ghost use Rattle.chain.specs.Private.{SharedOf};
+ghost use Rattle.chain.specs.Private.{Spaced, RimOf, UprightOf, SeenOf};
 
 // x = 1+e.
 fn x_of(e: Answer) -> Answer
@@ -33,124 +37,241 @@ fn g_of(e: Answer) -> Answer
     sum_of(e, exact(2_000_000_000_000))
 }
 
-// r = root(e/g).
-fn r_of(e: Answer) -> Answer
-    ensures { λ r. ⌜ figures r ≡ chain.r answers (figures e) ⌝ }
-{
-    root_of(quotient_of(e, g_of(e)))
+// What every face needs of e: g·g, e·e, e·g and r = root(e/g).
+struct Rim {
+    e: Answer,
+    gg: Answer,
+    ee: Answer,
+    eg: Answer,
+    r: Answer,
 }
 
-// u = root(l·l+g·g).
-fn u_of(l: Answer, e: Answer) -> Answer
-    ensures { λ r. ⌜ figures r ≡ chain.u answers (figures l) (figures e) ⌝ }
+fn rim_of(e: Answer) -> Rim
+    ensures { λ r. ⌜ (r .e ≡ e) × RimOf r ⌝ }
 {
     let g = g_of(e);
-    root_of(sum_of(product_of(l, l), product_of(g, g)))
+    let gg = product_of(g, g);
+    let ee = product_of(e, e);
+    let eg = product_of(e, g);
+    let r = root_of(quotient_of(e, g));
+    Rim { e, gg, ee, eg, r }
 }
 
-// v = root(l·l+e·e).
-fn v_of(l: Answer, e: Answer) -> Answer
-    ensures { λ r. ⌜ figures r ≡ chain.v answers (figures l) (figures e) ⌝ }
+// What the vertical face needs besides: x, x·x, atan(r) and root(e·g).
+struct Upright {
+    e: Answer,
+    x: Answer,
+    xx: Answer,
+    angle: Answer,
+    root: Answer,
+}
+
+fn upright_of(rim: Rim) -> Upright
+    requires { ⌜ RimOf rim ⌝ }
+    ensures { λ r. ⌜ (r .e ≡ rim .e) × UprightOf r ⌝ }
 {
-    root_of(sum_of(product_of(l, l), product_of(e, e)))
+    let e = rim.e;
+    let eg = rim.eg;
+    let r = rim.r;
+    let x = x_of(e);
+    let xx = product_of(x, x);
+    let angle = atan_of(r);
+    let root = root_of(eg);
+    Upright {
+        e,
+        x,
+        xx,
+        angle,
+        root,
+    }
 }
 
-// What both faces share: r, u·v, and A = atan((r·u)/v).
-struct Shared {
-    r: Answer,
+// What the horizontal face needs besides: atan(root(g/e)).
+fn level_angle(e: Answer) -> Answer
+    ensures { λ r. ⌜ figures r ≡ atan answers (answers .root (answers .quotient (chain.g answers (figures e)) (figures e))) ⌝ }
+{
+    atan_of(root_of(quotient_of(g_of(e), e)))
+}
+
+// What both faces need of y in l's place: y·y, u·v and A = atan((r·u)/v).
+struct Seen {
+    y: Answer,
+    yy: Answer,
     product: Answer,
     tilt: Answer,
 }
 
-fn shared_by_faces(l: Answer, e: Answer) -> Shared
-    ensures { λ r. ⌜ SharedOf l e r ⌝ }
+fn seen_at(y: Answer, rim: Rim) -> Seen
+    requires { ⌜ RimOf rim ⌝ }
+    ensures { λ r. ⌜ (r .y ≡ y) × SeenOf (rim .e) r ⌝ }
 {
-    let r = r_of(e);
-    let u = u_of(l, e);
-    let v = v_of(l, e);
+    let gg = rim.gg;
+    let ee = rim.ee;
+    let r = rim.r;
+    let yy = product_of(y, y);
+    let u = root_of(sum_of(yy, gg));
+    let v = root_of(sum_of(yy, ee));
     let product = product_of(u, v);
     let tilt = atan_of(quotient_of(product_of(r, u), v));
-    Shared { r, product, tilt }
-}
-
-// atan(l/root(e·g))/x.
-fn height_angle(l: Answer, e: Answer) -> Answer
-    ensures { λ r. ⌜ figures r ≡ chain.height-angle answers (figures l) (figures e) ⌝ }
-{
-    quotient_of(
-        atan_of(quotient_of(l, root_of(product_of(e, g_of(e))))),
-        x_of(e),
-    )
-}
-
-// (l·l+x·x+1)/(u·v).
-fn vertical_ratio(l: Answer, e: Answer, both: Shared) -> Answer
-    requires { ⌜ SharedOf l e both ⌝ }
-    ensures { λ r. ⌜ figures r ≡ chain.vertical-ratio answers (figures l) (figures e) ⌝ }
-{
-    let product = both.product;
-    let x = x_of(e);
-    quotient_of(
-        sum_of(
-            sum_of(product_of(l, l), product_of(x, x)),
-            exact(1_000_000_000_000),
-        ),
+    Seen {
+        y,
+        yy,
         product,
-    )
+        tilt,
+    }
+}
+
+// atan(y/root(e·g))/x.
+fn height_angle(y: Answer, up: Upright) -> Answer
+    requires { ⌜ UprightOf up ⌝ }
+    ensures { λ r. ⌜ figures r ≡ chain.height-angle answers (figures y) (figures (up .e)) ⌝ }
+{
+    let x = up.x;
+    let root = up.root;
+    quotient_of(atan_of(quotient_of(y, root)), x)
+}
+
+// (y·y+x·x+1)/(u·v).
+fn vertical_ratio(seen: Seen, up: Upright) -> Answer
+    requires { ⌜ UprightOf up × SeenOf (up .e) seen ⌝ }
+    ensures { λ r. ⌜ figures r ≡ chain.vertical-ratio answers (figures (seen .y)) (figures (up .e)) ⌝ }
+{
+    let yy = seen.yy;
+    let product = seen.product;
+    let xx = up.xx;
+    quotient_of(sum_of(sum_of(yy, xx), exact(1_000_000_000_000)), product)
 }
 
 // The vertical face (B.2).
-fn vertical(l: Answer, e: Answer, both: Shared) -> Answer
-    requires { ⌜ SharedOf l e both ⌝ }
-    ensures { λ r. ⌜ figures r ≡ chain.vertical answers (figures l) (figures e) ⌝ }
+fn vertical(seen: Seen, up: Upright) -> Answer
+    requires { ⌜ UprightOf up × SeenOf (up .e) seen ⌝ }
+    ensures { λ r. ⌜ figures r ≡ chain.vertical answers (figures (seen .y)) (figures (up .e)) ⌝ }
 {
-    let r = both.r;
-    let tilt = both.tilt;
-    let slope = quotient_of(l, x_of(e));
-    let seen = sum_of(
-        height_angle(l, e),
-        product_of(product_of(slope, vertical_ratio(l, e, both)), tilt),
+    let y = seen.y;
+    let tilt = seen.tilt;
+    let x = up.x;
+    let angle = up.angle;
+    let slope = quotient_of(y, x);
+    let facing = sum_of(
+        height_angle(y, up),
+        product_of(product_of(slope, vertical_ratio(seen, up)), tilt),
     );
-    quotient_of(
-        difference_of(seen, product_of(slope, atan_of(r))),
-        pi_answer(),
-    )
+    quotient_of(difference_of(facing, product_of(slope, angle)), pi_answer())
 }
 
 // The horizontal face, looking up (B.4).
-fn horizontal(l: Answer, e: Answer, both: Shared) -> Answer
-    requires { ⌜ SharedOf l e both ⌝ }
-    ensures { λ r. ⌜ figures r ≡ chain.horizontal answers (figures l) (figures e) ⌝ }
+fn horizontal(seen: Seen, rim: Rim, angle: Answer) -> Answer
+    requires { ⌜ RimOf rim × SeenOf (rim .e) seen ⌝ }
+    requires { ⌜ figures angle ≡ atan answers (answers .root (answers .quotient (chain.g answers (figures (rim .e))) (figures (rim .e)))) ⌝ }
+    ensures { λ r. ⌜ figures r ≡ chain.horizontal answers (figures (seen .y)) (figures (rim .e)) ⌝ }
 {
-    let product = both.product;
-    let tilt = both.tilt;
-    let g = g_of(e);
-    let ratio = quotient_of(sum_of(product_of(l, l), product_of(e, g)), product);
-    quotient_of(
-        difference_of(atan_of(root_of(quotient_of(g, e))), product_of(ratio, tilt)),
-        pi_answer(),
+    let yy = seen.yy;
+    let product = seen.product;
+    let tilt = seen.tilt;
+    let eg = rim.eg;
+    let ratio = quotient_of(sum_of(yy, eg), product);
+    quotient_of(difference_of(angle, product_of(ratio, tilt)), pi_answer())
+}
+
+// Whether an answer is the pair [0, 0].
+fn is_zero(a: Answer) -> bool
+    ensures { λ r. ⌜ (r ≡ true → figures a ≡ given (ends 0 0)) ⌝ }
+{
+    let Answer::Is(p) = a else {
+        return false;
+    };
+    if p.low == 0 {
+        return p.high == 0;
+    }
+    false
+}
+
+// The vertical face at y: that of [0, 0] is [0, 0] and is not worked.
+fn vertical_at(y: Answer, rim: Rim, up: Upright) -> Answer
+    requires { ⌜ RimOf rim × UprightOf up ⌝ }
+    requires { ⌜ up .e ≡ rim .e ⌝ }
+    requires { ⌜ Spaced (figures (rim .e)) ⌝ }
+    ensures { λ r. ⌜ figures r ≡ chain.vertical answers (figures y) (figures (rim .e)) ⌝ }
+{
+    if is_zero(y) {
+        return exact(0);
+    }
+    vertical(seen_at(y, rim), up)
+}
+
+// f(h) + f(l-h) - f(h-l), from f(l-h).
+fn vertical_above(between: Answer, l: Answer, h: Answer, rim: Rim, up: Upright) -> Answer
+    requires { ⌜ RimOf rim × UprightOf up ⌝ }
+    requires { ⌜ up .e ≡ rim .e ⌝ }
+    requires { ⌜ Spaced (figures (rim .e)) ⌝ }
+    requires { ⌜ figures between ≡ chain.vertical answers (answers .difference (figures l) (figures h)) (figures (rim .e)) ⌝ }
+    ensures { λ r. ⌜ figures r ≡ chain.vertical-above answers (figures l) (figures h) (figures (rim .e)) ⌝ }
+{
+    difference_of(
+        sum_of(vertical_at(h, rim, up), between),
+        vertical_at(difference_of(h, l), rim, up),
     )
 }
 
-// The factor of a face.
-pub(crate) fn factor_of(face: u8, l: Answer, e: Answer) -> Answer
-    ensures { λ r. ⌜ figures r ≡ chain.factor answers face (figures l) (figures e) ⌝ }
+// A target from the base up.
+fn factor_above(face: u8, l: Answer, h: Answer, rim: Rim) -> Answer
+    requires { ⌜ RimOf rim ⌝ }
+    requires { ⌜ Spaced (figures (rim .e)) ⌝ }
+    ensures { λ r. ⌜ figures r ≡ chain.factor-at answers true face (figures l) (figures h) (figures (rim .e)) ⌝ }
 {
-    let both = shared_by_faces(l, e);
+    let between = difference_of(l, h);
     if face == 1 {
-        return vertical(l, e, both);
+        let up = upright_of(rim);
+        return vertical_above(vertical_at(between, rim, up), l, h, rim, up);
     }
+    let seen = seen_at(between, rim);
+    let e = rim.e;
+    let level = horizontal(seen, rim, level_angle(e));
     if face == 2 {
-        return horizontal(l, e, both);
+        return level;
     }
-    larger_of(vertical(l, e, both), horizontal(l, e, both))
+    let up = upright_of(rim);
+    larger_of(vertical_above(vertical(seen, up), l, h, rim, up), level)
 }
 
-// The factor from l and e in trillionths, with limits of its own.
+// A target below the base: f(l+h) - f(h).
+fn factor_below(face: u8, l: Answer, h: Answer, rim: Rim) -> Answer
+    requires { ⌜ RimOf rim ⌝ }
+    ensures { λ r. ⌜ figures r ≡ chain.factor-at answers false face (figures l) (figures h) (figures (rim .e)) ⌝ }
+{
+    let top = seen_at(sum_of(l, h), rim);
+    let base = seen_at(h, rim);
+    if face == 1 {
+        let up = upright_of(rim);
+        return difference_of(vertical(top, up), vertical(base, up));
+    }
+    let e = rim.e;
+    let angle = level_angle(e);
+    let level = difference_of(horizontal(top, rim, angle), horizontal(base, rim, angle));
+    if face == 2 {
+        return level;
+    }
+    let up = upright_of(rim);
+    larger_of(difference_of(vertical(top, up), vertical(base, up)), level)
+}
+
+// The factor of a face, from the base up or below it.
+pub(crate) fn factor_at(above: bool, face: u8, l: Answer, h: Answer, e: Answer) -> Answer
+    requires { ⌜ Spaced (figures e) ⌝ }
+    ensures { λ r. ⌜ figures r ≡ chain.factor-at answers above face (figures l) (figures h) (figures e) ⌝ }
+{
+    let rim = rim_of(e);
+    if above {
+        return factor_above(face, l, h, rim);
+    }
+    factor_below(face, l, h, rim)
+}
+
+// The factor from l and e in trillionths, with limits of its own: that of a target level with the base.
 pub fn factor(l: u64, e: u64, face: u8) -> Factor
     ensures { λ r. ⌜ alone.figures r ≡ alone.factor-of l e face ⌝ }
 {
-    if outside(l, 500_000_000_000, 13_000_000_000_000) {
+    if outside(l, 0, 40_000_000_000_000) {
         return Factor::Refused(Outside::Height);
     }
     if outside(e, 40_000_000_000, 400_000_000_000_000) {
@@ -159,7 +280,7 @@ pub fn factor(l: u64, e: u64, face: u8) -> Factor
     if outside(face as u64, 1, 3) {
         return Factor::Refused(Outside::Face);
     }
-    let Answer::Is(p) = factor_of(face, exact(l), exact(e)) else {
+    let Answer::Is(p) = factor_at(true, face, exact(l), exact(0), exact(e)) else {
         // inside the limits no operation refuses
         return Factor::Refused(Outside::Face);
     };

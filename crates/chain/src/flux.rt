@@ -1,11 +1,14 @@
 // The radiant flux at a target: steps 1 to 8 with their refusals.
 use super::allowed::fuel_within;
+use super::allowed::height_outside;
 use super::allowed::outside;
+use super::elevation::from_base_up;
+use super::elevation::magnitude;
 use super::enquiry::Enquiry;
 use super::enquiry::Flux;
 use super::enquiry::Printed;
 use super::enquiry::Turned;
-use super::factor::factor_of;
+use super::factor::factor_at;
 use super::lifted::exact;
 use super::lifted::over_of;
 use super::lifted::product_of;
@@ -51,24 +54,27 @@ fn radiant_flux(e: Enquiry, diameter: Answer, heat: Answer, height: Answer) -> A
     requires { ⌜ figures diameter ≡ chain.diameter-of answers e ⌝ }
     requires { ⌜ figures heat ≡ chain.heat-release-of answers e ⌝ }
     requires { ⌜ figures height ≡ chain.flame-height-of answers e ⌝ }
-    requires { ⌜ e .distance ≤ 200_000 ⌝ }
+    requires { ⌜ Limited e ⌝ }
     ensures { λ r. ⌜ figures r ≡ chain.radiant-flux answers e ⌝ }
 {
     let method = e.method;
     let face = e.face;
-    let millimetres = e.distance as u64;
+    let rim = e.distance as u64;
+    let stands = e.height;
+    let from_base = magnitude(stands) as u64;
     let radius = over_of(diameter, 2);
     let l = quotient_of(height, radius);
-    let distance = quotient_of(exact(millimetres * 1_000_000_000), radius);
+    let elevation = quotient_of(exact(from_base * 1_000_000_000), radius);
+    let distance = quotient_of(exact(rim * 1_000_000_000), radius);
     product_of(
         emissive_power(method, diameter, heat, height),
-        factor_of(face, l, distance),
+        factor_at(from_base_up(stands), face, l, elevation, distance),
     )
 }
 
 // Low and high in whole W/m², and the note.
 fn printed(q: Pair, method: u8) -> Printed
-    requires { ⌜ (q .low ≤ q .high) × (q .high ≤ 740 * U) ⌝ }
+    requires { ⌜ (q .low ≤ q .high) × (q .high ≤ 6_300 * U) ⌝ }
     ensures { λ r. ⌜ Prints q method r ⌝ }
 {
     let low = (q.low / 1_000_000_000) as u32;
@@ -118,6 +124,10 @@ pub fn flux(e: Enquiry) -> Flux
     }
     if outside(e.face as u64, 1, 3) {
         return Flux::Refused(Turned::Face);
+    }
+    let height = e.height;
+    if height_outside(height) {
+        return Flux::Refused(Turned::Height);
     }
     flux_within(e)
 }

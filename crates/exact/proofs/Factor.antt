@@ -1,4 +1,4 @@
--- Step 7, the configuration factor: rounded and exact overlap at every depth from 8 on, where e is at least 1/256.
+-- Step 7, the configuration factor at any height: rounded and exact overlap at every depth from 8 on, where e is at least 1/256.
 -- Its divisors are sums with 1 or 2, and roots of products and sums of squares of e and e + 2. Assumes nothing.
 use mathlib.Core.Path.{refl}
 use mathlib.Core.Bool.{Bool, true, false}
@@ -10,7 +10,7 @@ use Rattle.pairs.specs.Figures.{Figures}
 use Rattle.pairs.specs.Answers.{answers}
 use Rattle.pairs.specs.Answers as answer
 use Rattle.pairs.specs.Series.{pi}
-use Rattle.chain.specs.Chain.{x, g, r, u, v, tilt, height-angle, vertical-ratio, vertical, horizontal-ratio, horizontal, factor}
+use Rattle.chain.specs.Chain.{x, g, r, u, v, tilt, height-angle, vertical-ratio, vertical, horizontal-ratio, horizontal, by-face, vertical-above, horizontal-above, vertical-below, horizontal-below, factor-at}
 use Rattle.exact.specs.Fraction.{Fraction, _⊑_, _⊗_, power}
 use Rattle.exact.specs.Depth as depth
 use Rattle.exact.specs.Depth.{Bracket, exact}
@@ -136,8 +136,24 @@ module _ (n : ℕ) (deep : 8 ≤ n) {a b : Figures} {l e : Bracket} (away : one-
       (product-meets horizontal-ratio-meets tilt-meets))
       (pi-meets n deep) (pi-positive n (omega arith))
 
-  pub factor-meets : (face : ℕ) → Meets (factor answers face a b) (factor (exact n) face l e)
-  unfolding factor
-  factor-meets face =
-      choice-meets (eqb face 1) vertical-meets
-      (choice-meets (eqb face 2) horizontal-meets (larger-meets vertical-meets horizontal-meets))
+-- ---- at a height
+by-face-meets :
+    (n face : ℕ) {f k : Figures} {y z : Bracket} → Meets f y → Meets k z → Meets (by-face answers face f k) (by-face (exact n) face y z)
+unfolding by-face
+by-face-meets n face h k = choice-meets (eqb face 1) h (choice-meets (eqb face 2) k (larger-meets h k))
+
+pub factor-at-meets :
+    (n : ℕ) → 8 ≤ n → {a c b : Figures} {l h e : Bracket} → one-256th ⊑ e .low → Meets a l → Meets c h → Meets b e
+    → (up : Bool) (face : ℕ) → Meets (factor-at answers up face a c b) (factor-at (exact n) up face l h e)
+unfolding factor-at vertical-above horizontal-above vertical-below horizontal-below
+factor-at-meets n deep away L H E up face =
+    let between = difference-meets L H in
+    let beyond = difference-meets H L in
+    let together = sum-meets L H in
+    choice-meets up
+    (by-face-meets n face
+    (difference-meets (sum-meets (vertical-meets n deep away H E) (vertical-meets n deep away between E))
+    (vertical-meets n deep away beyond E))
+    (horizontal-meets n deep away between E))
+    (by-face-meets n face (difference-meets (vertical-meets n deep away together E) (vertical-meets n deep away H E))
+    (difference-meets (horizontal-meets n deep away together E) (horizontal-meets n deep away H E)))

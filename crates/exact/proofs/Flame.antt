@@ -5,10 +5,11 @@ use Prim.Native.Nat.{ℕ, zero, _*_, _≤_, _<_}
 use native.Mathlib.Nat.{le-refl}
 use native.Mathlib.Omega.{arith}
 use lib.Dec.{lit<, lit≤, eqb}
+use lib.IntN.{natAbs}
 use Rattle.pairs.specs.Answers.{answers}
 use Rattle.pairs.specs.Series.{pi}
 use Rattle.chain.specs.declared.enquiry.Enquiry.{Enquiry}
-use Rattle.chain.specs.Chain.{diameter, radius, optical-depth, unabsorbed, heat-release, flame-height, emissive-power-1, radiant-fraction, flame-surface, emissive-power-2, emissive-power, in-radii, diameter-of, unabsorbed-of, heat-release-of, flame-height-of, emissive-power-of, relative-height-of, relative-distance-of}
+use Rattle.chain.specs.Chain.{diameter, radius, optical-depth, unabsorbed, heat-release, flame-height, emissive-power-1, radiant-fraction, flame-surface, emissive-power-2, emissive-power, in-radii, diameter-of, unabsorbed-of, heat-release-of, flame-height-of, emissive-power-of, relative-height-of, relative-elevation-of, relative-distance-of}
 use Rattle.exact.specs.Fraction.{_⊑_, whole, _⊗_, _⊘_, power}
 use Rattle.exact.specs.Depth as depth
 use Rattle.exact.specs.Depth.{Bracket, exact}
@@ -137,6 +138,12 @@ module _ (n : ℕ) (deep : 8 ≤ n) (E : Enquiry) where
     unfolding relative-distance-of in-radii
     relative-distance-meets =
         quotient-meets (constant-meets (E .distance) 1000 (lit< tt) (omega arith)) radius-meets radius-positive
+
+    -- Any magnitude of the height.
+    pub relative-elevation-meets : Meets (relative-elevation-of answers E) (relative-elevation-of (exact n) E)
+    unfolding relative-elevation-of in-radii
+    relative-elevation-meets =
+        quotient-meets (constant-meets (natAbs (E .height)) 1000 (lit< tt) (omega arith)) radius-meets radius-positive
 
     pub relative-distance-low : 1000 ≤ E .distance → one-256th ⊑ (relative-distance-of (exact n) E) .low
     unfolding relative-distance-of in-radii depth.quotient depth.constant

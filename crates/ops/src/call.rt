@@ -74,7 +74,7 @@ fn constant(name: &[u8]) -> Reply {
 }
 
 // A pair operation: on two pairs, a pair and a whole number, a pair, or nothing.
-fn operation(name: &[u8], count: usize, values: [u64; 7]) -> Reply {
+fn operation(name: &[u8], count: usize, values: [u64; 8]) -> Reply {
     let p = Pair {
         low: values[0],
         high: values[1],
@@ -103,7 +103,7 @@ pub(crate) fn called(name: &[u8], ns: Numbers) -> Reply {
     let count = ns.count;
     let values = ns.values;
     if same(name, b"flux") {
-        return enquiry(count, values);
+        return enquiry(count, values, ns.negative);
     }
     if same(name, b"factor") {
         return factor_alone(count, values);

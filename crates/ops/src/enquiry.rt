@@ -2,8 +2,35 @@
 use crate::call::Reply;
 use chain::enquiry::Enquiry;
 
-// A line `flux m k c a method d face`.
-pub(crate) fn enquiry(count: usize, values: [u64; 7]) -> Reply {
+// A height, or one that no i32 holds.
+enum Height {
+    Is(i32),
+    TooLarge,
+}
+
+// -size, which is the complement of size - 1: so nothing overflows.
+fn below_zero(size: u64) -> Height {
+    if size == 0 {
+        return Height::Is(0);
+    }
+    if 2_147_483_648 < size {
+        return Height::TooLarge;
+    }
+    Height::Is(!((size - 1) as i32))
+}
+
+fn height_of(size: u64, negative: bool) -> Height {
+    if negative {
+        return below_zero(size);
+    }
+    if 2_147_483_647 < size {
+        return Height::TooLarge;
+    }
+    Height::Is(size as i32)
+}
+
+// The numbers m k c a method d face of a line, with its height.
+fn at_height(values: [u64; 8], height: i32) -> Reply {
     let m = values[0];
     let k = values[1];
     let c = values[2];
@@ -11,7 +38,7 @@ pub(crate) fn enquiry(count: usize, values: [u64; 7]) -> Reply {
     let method = values[4];
     let d = values[5];
     let face = values[6];
-    if count != 7 || 65_535 < m || 65_535 < k || 65_535 < c {
+    if 65_535 < m || 65_535 < k || 65_535 < c {
         return Reply::Unreadable;
     }
     if 4_294_967_295 < a || 255 < method || 4_294_967_295 < d || 255 < face {
@@ -25,11 +52,24 @@ pub(crate) fn enquiry(count: usize, values: [u64; 7]) -> Reply {
         method: method as u8,
         distance: d as u32,
         face: face as u8,
+        height,
     }))
 }
 
+// A line `flux m k c a method d face height`.
+pub(crate) fn enquiry(count: usize, values: [u64; 8], negative: bool) -> Reply {
+    if count != 8 {
+        return Reply::Unreadable;
+    }
+    let read = height_of(values[7], negative);
+    match read {
+        Height::Is(height) => at_height(values, height),
+        Height::TooLarge => Reply::Unreadable,
+    }
+}
+
 // A line `factor l e face`.
-pub(crate) fn factor_alone(count: usize, values: [u64; 7]) -> Reply {
+pub(crate) fn factor_alone(count: usize, values: [u64; 8]) -> Reply {
     let face = values[2];
     if count != 3 || 255 < face {
         return Reply::Unreadable;

@@ -2,21 +2,25 @@
 ghost use Prim.Native.Nat.{_≤_};
 ghost use lib.ListN.{length};
 
-// The numbers of a line, in its order, at most seven. A line that cannot be read is not readable, whatever follows.
+// The numbers of a line, in its order, at most eight; the eighth, a height, may have a sign. A line that cannot be read is not readable,
+// whatever follows.
 pub(crate) struct Numbers {
     pub(crate) readable: bool,
-    // whether a blank was the last byte: a number is to follow
+    // whether a blank or a sign was the last byte: a digit is to follow
     pub(crate) awaited: bool,
+    // whether the eighth has a sign
+    pub(crate) negative: bool,
     pub(crate) count: usize,
-    pub(crate) values: [u64; 7],
+    pub(crate) values: [u64; 8],
 }
 
 fn no_numbers() -> Numbers {
     Numbers {
         readable: true,
         awaited: false,
+        negative: false,
         count: 0,
-        values: [0; 7],
+        values: [0; 8],
     }
 }
 
@@ -30,11 +34,20 @@ fn with_blank(mut ns: Numbers) -> Numbers {
     if ns.awaited {
         return unreadable(ns);
     }
-    if 6 < ns.count {
+    if 7 < ns.count {
         return unreadable(ns);
     }
     ns.awaited = true;
     ns.count += 1;
+    ns
+}
+
+// A sign: before the digits of the eighth number, and once.
+fn with_sign(mut ns: Numbers) -> Numbers {
+    if ns.count != 8 || !ns.awaited || ns.negative {
+        return unreadable(ns);
+    }
+    ns.negative = true;
     ns
 }
 
@@ -45,7 +58,7 @@ fn with_digit(mut ns: Numbers, digit: u64) -> Numbers {
         return unreadable(ns);
     }
     let at = count - 1;
-    if 6 < at {
+    if 7 < at {
         return unreadable(ns);
     }
     let value = ns.values[at];
@@ -60,6 +73,9 @@ fn with_digit(mut ns: Numbers, digit: u64) -> Numbers {
 fn with_byte(ns: Numbers, byte: u8) -> Numbers {
     if byte == b' ' {
         return with_blank(ns);
+    }
+    if byte == b'-' {
+        return with_sign(ns);
     }
     if byte < b'0' {
         return unreadable(ns);

@@ -16,7 +16,7 @@ use line::numbers_in;
 use line::place_of;
 use pairs::answer::Answer;
 
-// 11 to 17 of document 01.
+// 11 to 17 of document 01, and 18 of request 1.
 fn turned_number(why: Turned) -> u64 {
     match why {
         Turned::Fuel => 11,
@@ -24,6 +24,7 @@ fn turned_number(why: Turned) -> u64 {
         Turned::Method => 13,
         Turned::Distance => 14,
         Turned::Face => 15,
+        Turned::Height => 18,
         Turned::LowFlame => 16,
         Turned::TooLarge => 17,
     }

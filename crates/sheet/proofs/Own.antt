@@ -11,8 +11,8 @@ use lib.ListN.{length, take, drop, getD}
 use lib.Seq.{getD-take, getD-drop, take-at, drop-at}
 use lib.Dec.{ltb}
 use Rattle.chain.specs.Flux.{flux-of}
-use Rattle.sheet.specs.Layout.{fuel-size, absorption-offset, heat-offset, pool-size, method-offset, target-size, distance-offset, face-offset, answer-size, fuel-at, pool-at, target-at}
-use Rattle.sheet.specs.Bytes.{one, two, four}
+use Rattle.sheet.specs.Layout.{fuel-size, absorption-offset, heat-offset, pool-size, method-offset, target-size, distance-offset, face-offset, height-offset, answer-size, fuel-at, pool-at, target-at}
+use Rattle.sheet.specs.Bytes.{one, two, four, signed, four-signed}
 use Rattle.sheet.specs.Reading.{reading-of, fuels-of, pools-of, targets-of, fuel-index, pool-index}
 use Rattle.sheet.specs.Target.{enquiry-at, enquiry-of, shown-of}
 use Rattle.sheet.specs.Fill.{ten-bytes, answers, Filled, either, untouched, written, with-room, fill-after, fill-of}
@@ -52,6 +52,10 @@ module _ (s t : List ℕ) (at to size : ℕ) (e : cut s at size ≡ cut t to siz
   unfolding four
   same-four k h = cc (add-assoc at k 2, add-assoc to k 2, same-two k (omega arith), same-two (k + 2) (omega arith))
 
+  same-signed : (k : ℕ) → k + 4 ≤ size → four-signed s (at + k) ≡ four-signed t (to + k)
+  unfolding four-signed
+  same-signed k h = ap signed (same-four k h)
+
   first-two : 2 ≤ size → two s at ≡ two t to
   first-two h = cc (add-zero at, add-zero to, same-two 0 (omega arith))
 
@@ -71,6 +75,7 @@ same-enquiry s t f g p q a b u v w =
       method = same-one s t p q pool-size v method-offset (omega arith) x;
       distance = same-four s t a b target-size w distance-offset (omega arith) x;
       face = same-one s t a b target-size w face-offset (omega arith) x;
+      height = same-signed s t a b target-size w height-offset (omega arith) x;
     }
 
 same-shown :

@@ -1,4 +1,4 @@
--- Document 01, "Sheet and fill": where each number of a sheet stands. Every size, offset and limit is here and nowhere else.
+-- Document 01, "Sheet and fill", and request 1 of document 02: where each number of a sheet stands. Every size, offset and limit is here and nowhere else.
 use Prim.Native.Nat.{ℕ, _+_, _*_}
 
 -- "Three sections in this order, each after a 2-byte count: fuels (at most 64), pools (64), targets (512)."
@@ -34,15 +34,19 @@ fuel-index-offset = 4
 abbrev pub method-offset : ℕ
 method-offset = 6
 
--- "Target: pool index in 2, d in 4, face in 1."
+-- "Target: pool index in 2, d in 4, face in 1." Request 1: "A target gains a signed height above the flame's base, 4 bytes in two's
+-- complement after the face."
 abbrev pub target-size : ℕ
-target-size = 7
+target-size = 11
 
 abbrev pub distance-offset : ℕ
 distance-offset = 2
 
 abbrev pub face-offset : ℕ
 face-offset = 6
+
+abbrev pub height-offset : ℕ
+height-offset = 7
 
 -- "The fill writes 10 bytes per target."
 abbrev pub answer-size : ℕ

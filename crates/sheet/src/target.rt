@@ -1,5 +1,6 @@
 // One target of an accepted sheet: its enquiry, and what is shown for it.
 use super::bytes::four;
+use super::bytes::four_signed;
 use super::bytes::one;
 use super::bytes::two;
 use super::layout::ABSORPTION;
@@ -9,6 +10,7 @@ use super::layout::FACE;
 use super::layout::FUEL_INDEX;
 use super::layout::FUEL_SIZE;
 use super::layout::HEAT;
+use super::layout::HEIGHT;
 use super::layout::METHOD;
 use super::layout::POOL_SIZE;
 use super::layout::TARGET_SIZE;
@@ -43,6 +45,7 @@ fn number(why: Turned) -> u8
         Turned::Method => 13,
         Turned::Distance => 14,
         Turned::Face => 15,
+        Turned::Height => 18,
         Turned::LowFlame => 16,
         Turned::TooLarge => 17,
     }
@@ -72,6 +75,7 @@ fn enquiry(sheet: &[u8], fuel: usize, pool: usize, target: usize) -> Enquiry
     requires { ⌜ (fuel + fuel-size ≤ length (now sheet)) × (pool + pool-size ≤ length (now sheet)) × (target + target-size ≤ length (now sheet)) ⌝ }
     ensures { λ r. ⌜ r ≡ enquiry-at (now (sheet .entry)) fuel pool target ⌝ }
 {
+    let height = four_signed(sheet, target + HEIGHT);
     Enquiry {
         rate: two(sheet, fuel),
         absorption: two(sheet, fuel + ABSORPTION),
@@ -80,6 +84,7 @@ fn enquiry(sheet: &[u8], fuel: usize, pool: usize, target: usize) -> Enquiry
         method: one(sheet, pool + METHOD),
         distance: four(sheet, target + DISTANCE),
         face: one(sheet, target + FACE),
+        height,
     }
 }
 

@@ -8,15 +8,6 @@ use borrow.Author.Needs.{needs}
 use Rattle.chain.proofs.factor.vertical_ratio.Statement.{statement}
 use Rattle.chain.proofs.factor.vertical_ratio.Tie as tie
 
-x-of-requires : tie.Need-x-of-requires
-x-of-requires c κs = search needs
-
-product-of-requires : tie.Need-product-of-requires
-product-of-requires c κs = search needs
-
-product-of-requires-2 : tie.Need-product-of-requires-2
-product-of-requires-2 c κs = search needs
-
 sum-of-requires : tie.Need-sum-of-requires
 sum-of-requires c κs = search needs
 
@@ -33,20 +24,13 @@ returns : tie.Need-returns
 unfolding chain.vertical-ratio A.constant A.fitting R.constant
 returns c =
     let s = c .before .before .before in
-    let x = s .before .before .before .x-of .ensures in
-    let squares = s .sum-of .ensures ∙ ap₂ A.sum (s .before .before .product-of .ensures) (s .before .product-of2 .ensures ∙ ap₂ A.product x x) in
+    let up = s .before .pre .0 in
+    let seen = s .before .pre .1 in
+    let squares = s .sum-of .ensures ∙ ap₂ A.sum (seen .yy) (up .xx) in
     let above = c .before .sum-of2 .ensures ∙ ap₂ A.sum squares (c .before .before .exact .ensures) in
-    c .quotient-of .ensures ∙ ap₂ A.quotient above (s .before .before .before .before .pre .product)
+    c .quotient-of .ensures ∙ ap₂ A.quotient above (seen .product)
 
 pub vertical-ratio-spec : {M : Type 1} → statement M
 vertical-ratio-spec =
     tie.close
-    (tie.spec
-    x-of-requires
-    product-of-requires
-    product-of-requires-2
-    sum-of-requires
-    exact-requires
-    sum-of-requires-2
-    quotient-of-requires
-    returns)
+    (tie.spec sum-of-requires exact-requires sum-of-requires-2 quotient-of-requires returns)

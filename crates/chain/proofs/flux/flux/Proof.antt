@@ -1,10 +1,16 @@
--- `flux` meets its contract: 11 to 15 in their order, then what is within the limits.
+-- `flux` meets its contract: 11 to 15 and 18 in their order, then what is within the limits.
 -- Assumes nothing.
 use mathlib.Core.Path.{_≡_, sym, ap, _∙_}
-use mathlib.Core.Bool.{true, false, not}
+use mathlib.Core.Bool.{Bool, true, false, not}
+use Prim.Native.Nat.{_<_, _^_}
+use lib.IntN.{ℤ}
+use lib.Signed.{mag}
+use mir.Syntax.{w32}
+use mir.Val.{hbits, toZ, ofZ}
+use mir.Facts.{toZ-ofZ}
 use Rattle.chain.specs.declared.enquiry.Enquiry.{Enquiry}
-use Rattle.chain.specs.Flux.{refused, outside, fuel-within, flux-of}
-use borrow.Author.Needs.{needs}
+use Rattle.chain.specs.Flux.{refused, outside, fuel-within, height-outside, flux-of}
+use borrow.Author.Needs.{needs, sfits-of}
 use Rattle.chain.proofs.flux.flux.Statement.{statement}
 use Rattle.chain.proofs.flux.flux.Tie as tie
 
@@ -27,6 +33,14 @@ is-14 E a b c d = rw (a, b, c, d)
 is-15 : (E : Enquiry) → not (fuel-within E) ≡ false → outside 100 190_000 (E .area) ≡ false → outside 1 2 (E .method) ≡ false → outside 1_000 200_000 (E .distance) ≡ false → outside 1 3 (E .face) ≡ true → refused 15 ≡ flux-of E
 unfolding flux-of
 is-15 E a b c d e = rw (a, b, c, d, e)
+
+is-18 : (E : Enquiry) → not (fuel-within E) ≡ false → outside 100 190_000 (E .area) ≡ false → outside 1 2 (E .method) ≡ false → outside 1_000 200_000 (E .distance) ≡ false → outside 1 3 (E .face) ≡ false → height-outside (E .height) ≡ true → refused 18 ≡ flux-of E
+unfolding flux-of
+is-18 E a b c d e f = rw (a, b, c, d, e, f)
+
+-- the height, read back from its bits
+read : (z : ℤ) {b o : Bool} → mag z < 2 ^ hbits w32 → b ≡ height-outside (toZ w32 (ofZ w32 z)) → b ≡ o → height-outside z ≡ o
+read z f e g = ap height-outside (sym (toZ-ofZ (sfits-of f))) ∙ sym e ∙ g
 
 fuel-within-requires : tie.Need-fuel-within-requires
 fuel-within-requires c κs = search needs
@@ -80,8 +94,19 @@ returns-5 c = let e4 = c .before .before .before in
     let e1 = e2 .before .before .before in
     is-15 _ (ap not (sym (e1 .before .fuel-within .ensures)) ∙ e1 .if1 .left) (sym (e2 .before .outside .ensures) ∙ e2 .if2 .left) (sym (e3 .before .outside2 .ensures) ∙ e3 .if3 .left) (sym (e4 .before .outside3 .ensures) ∙ e4 .if4 .left) (sym (c .before .outside4 .ensures) ∙ c .if5 .taken)
 
+height-outside-requires : tie.Need-height-outside-requires
+height-outside-requires c κs = search needs
+
+returns-6 : tie.Need-returns-6
+returns-6 c = let e5 = c .before .before .before in
+    let e4 = e5 .before .before .before in
+    let e3 = e4 .before .before .before in
+    let e2 = e3 .before .before .before in
+    let e1 = e2 .before .before .before in
+    is-18 _ (ap not (sym (e1 .before .fuel-within .ensures)) ∙ e1 .if1 .left) (sym (e2 .before .outside .ensures) ∙ e2 .if2 .left) (sym (e3 .before .outside2 .ensures) ∙ e3 .if3 .left) (sym (e4 .before .outside3 .ensures) ∙ e4 .if4 .left) (sym (e5 .before .outside4 .ensures) ∙ e5 .if5 .left) (read _ (c .before .before .struct-told .given .1 .1 .1 .1 .1 .1 .1 .0 .1) (c .before .height-outside .ensures) (c .if6 .taken))
+
 flux-within-requires : tie.Need-flux-within-requires
-flux-within-requires c κs = let e5 = c in
+flux-within-requires c κs = let e5 = c .before .before .before in
     let e4 = e5 .before .before .before in
     let e3 = e4 .before .before .before in
     let e2 = e3 .before .before .before in
@@ -92,10 +117,11 @@ flux-within-requires c κs = let e5 = c in
       method = sym (e3 .before .outside2 .ensures) ∙ e3 .if3 .left;
       distance = sym (e4 .before .outside3 .ensures) ∙ e4 .if4 .left;
       face = sym (e5 .before .outside4 .ensures) ∙ e5 .if5 .left;
+      height = read _ (c .before .before .struct-told .given .1 .1 .1 .1 .1 .1 .1 .0 .1) (c .before .height-outside .ensures) (c .if6 .left);
     }
 
-returns-6 : tie.Need-returns-6
-returns-6 c = search needs
+returns-7 : tie.Need-returns-7
+returns-7 c = search needs
 
 pub flux-spec : {M : Type 1} → statement M
 flux-spec =
@@ -115,5 +141,7 @@ flux-spec =
     cast-outside-4
     outside-requires-4
     returns-5
+    height-outside-requires
+    returns-6
     flux-within-requires
-    returns-6)
+    returns-7)

@@ -24,7 +24,7 @@ use Rattle.chain.proofs.flux.flux_within.Tie as tie
 
 low-flame : (E : Enquiry) → Limited E → flame-too-low E ≡ true → refused 16 ≡ flux-of E
 unfolding flux-of
-low-flame E w e = rw (w .fuel, w .area, w .method, w .distance, w .face, e)
+low-flame E w e = rw (w .fuel, w .area, w .method, w .distance, w .face, w .height, e)
 
 -- what is printed of the chain's pair
 as-shown :
@@ -40,7 +40,7 @@ as-shown E q p t e h =
 worked : (E : Enquiry) (a : Answer) (q : Pair) → Tested E → figures a ≡ chain.radiant-flux answers E → a ≡ Is q → q ≡ chain.radiant-flux rounded E
 worked E a q t e f = pair-given a (chain.radiant-flux rounded E) q (e ∙ accepted E t .flux-given) f
 
-small : (E : Enquiry) (q : Pair) → Tested E → q ≡ chain.radiant-flux rounded E → (q .low ≤ q .high) × (q .high ≤ 740 * U)
+small : (E : Enquiry) (q : Pair) → Tested E → q ≡ chain.radiant-flux rounded E → (q .low ≤ q .high) × (q .high ≤ 6_300 * U)
 small E q t e = let a = accepted E t in rw e (a .ordered, a .high)
 
 -- the answers of the steps up to the flame are those of the enquiry
@@ -94,7 +94,7 @@ radiant-flux-requires c κs = let h = c .before .before in
     let d = h .before .before .diameter .ensures in
     let q = h .before .heat-release .ensures in
     let l = h .flame-height .ensures in
-    (diameter-is _ _ _ _ d q l, (heat-is _ _ _ _ d q l, (height-is _ _ _ _ d q l, between 1_000 200_000 _ (h .before .before .before .pre .distance) .high)))
+    (diameter-is _ _ _ _ d q l, (heat-is _ _ _ _ d q l, (height-is _ _ _ _ d q l, h .before .before .before .pre)))
 
 enum-known-q : tie.Need-enum-known-q
 enum-known-q c = search needs

@@ -1,9 +1,18 @@
 -- `enquiry` meets its contract: each number is read at its own place.
 -- Assumes nothing.
+use mathlib.Core.Path.{_∙_}
+use mir.Syntax.{w32}
+use mir.ValLaws.{toZ-ofZ}
 use Rattle.sheet.specs.Target.{enquiry-at}
 use borrow.Author.Needs.{needs}
 use Rattle.sheet.proofs.target.enquiry.Statement.{statement}
 use Rattle.sheet.proofs.target.enquiry.Tie as tie
+
+add-four-signed : tie.Need-add-four-signed
+add-four-signed c = search needs
+
+four-signed-requires : tie.Need-four-signed-requires
+four-signed-requires c κs = search needs
 
 two-requires : tie.Need-two-requires
 two-requires c κs = search needs
@@ -46,6 +55,7 @@ unfolding enquiry-at
 returns c =
     let b = c .before .before in
     let d = b .before .before in
+    let h = d .before .before .before .four-signed in
     λ j. record {
       rate = d .before .before .two .ensures j;
       absorption = d .before .two2 .ensures j;
@@ -54,12 +64,15 @@ returns c =
       method = b .one .ensures j;
       distance = c .before .four2 .ensures j;
       face = c .one2 .ensures j;
+      height = (toZ-ofZ w32 (h .result) (record { sfits = h .ok }) ∙ h .ensures) j;
     }
 
 pub enquiry-spec : {M : Type 1} → statement M
 enquiry-spec =
     tie.close
     (tie.spec
+    add-four-signed
+    four-signed-requires
     two-requires
     add-two
     two-requires-2

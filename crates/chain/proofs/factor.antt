@@ -1,0 +1,2 @@
+-- The face that is asked.
+pub mod Faces

@@ -1,0 +1,35 @@
+-- `is_zero` meets its contract: both ends are compared with 0.
+-- Assumes nothing.
+use mathlib.Core.Path.{_≡_, sym, ap, subst, _∙_}
+use mathlib.Core.Bool.{true, false}
+use lib.Dec.{T}
+use borrow.Author.Tests.{eqb-true}
+use Rattle.pairs.specs.declared.answer.Pair.{Pair}
+use Rattle.pairs.specs.declared.answer.Answer.{Answer}
+use Rattle.pairs.specs.declared.answer.Answer.the-variants.{Is}
+use Rattle.pairs.specs.Rounded.{ends}
+use Rattle.pairs.specs.Figures.{figures, given}
+use borrow.Author.Needs.{needs}
+use Rattle.chain.proofs.factor.is_zero.Statement.{statement}
+use Rattle.chain.proofs.factor.is_zero.Tie as tie
+
+zero-ends : (a : Answer) (p : Pair) → a ≡ Is p → p .low ≡ 0 → p .high ≡ 0 → figures a ≡ given (ends 0 0)
+zero-ends a p e l h = ap figures e ∙ (λ i. given (ends (l i) (h i)))
+
+never : {X : Type 0} → false ≡ true → X
+never e = absurd (subst T (sym e) tt)
+
+enum-known-a : tie.Need-enum-known-a
+enum-known-a c = search needs
+
+returns : tie.Need-returns
+returns c = λ e. never e
+
+returns-2 : tie.Need-returns-2
+returns-2 c = λ e. zero-ends _ _ (c .before .before .before .before .a .given .1) (c .before .if1 .taken) (eqb-true _ 0 e)
+
+returns-3 : tie.Need-returns-3
+returns-3 c = λ e. never e
+
+pub is-zero-spec : {M : Type 1} → statement M
+is-zero-spec = tie.close (tie.spec enum-known-a returns returns-2 returns-3)

@@ -1,0 +1,151 @@
+-- How far apart the ends of q are at most, by method and face, at any height and level with the base.
+-- From the widths of E and of the factor, by one product. Assumes nothing.
+use mathlib.Core.Path.{_≡_, refl, subst}
+use mathlib.Core.Bool.{Bool, true, false}
+use mathlib.Core.List.{List, [], _∷_}
+use Prim.Native.Nat.{ℕ, _+_, _*_, _≤_, max}
+use native.Mathlib.Nat.{le-refl, le-max-left, le-max-right, max-le}
+use native.Mathlib.Omega.{arith}
+use lib.Dec.{T, eqb}
+use lib.IntN.{pos}
+use lib.Signed.{nonNeg}
+use Rattle.pairs.specs.declared.answer.Pair.{Pair}
+use Rattle.pairs.specs.Rounded.{U, rounded, up, down}
+use Rattle.pairs.specs.Figures.{Figures}
+use Rattle.pairs.specs.Answers.{answers}
+use Rattle.pairs.proofs.Agreement.{agreement}
+use Rattle.chain.specs.declared.enquiry.Enquiry.{Enquiry}
+use Rattle.chain.specs.Chain.{by-face, factor, factor-at, emissive-power, emissive-power-of, relative-height-of, relative-elevation-of, relative-distance-of, configuration-factor-of, radiant-flux}
+use Rattle.chain.proofs.Bounds as B
+use Rattle.chain.proofs.Bounds.{Bound, bound, bounds}
+use Rattle.chain.proofs.Inside.{Inside}
+use Rattle.chain.proofs.Within.{Held, within}
+use Rattle.chain.proofs.Steps.{choice-kept, factor-kept, emissive-power-of-kept, relative-height-of-kept, relative-distance-of-kept, radiant-flux-kept}
+use Rattle.chain.proofs.Boxes.{known, passing, Passed, tests-passed, every, each}
+use Rattle.chain.proofs.Flame.{emissive-bound-1, emissive-bound-2}
+use Rattle.chain.proofs.Limits.{Tested, between}
+use Rattle.chain.proofs.Accepted as chain
+use Rattle.chain.proofs.Level.{flux-level}
+use Rattle.widths.proofs.FactorWidths.{Lengths, level-bound, above-bound, below-bound, level-within, above-within, below-within}
+
+-- ---- bounds of q
+unfoldable pub emissive-bound : ℕ → Bound
+emissive-bound method = elim (eqb method 1) [ true ↦ emissive-bound-1 | false ↦ emissive-bound-2 ]
+
+-- From a bound of the factor, in trillionths of a kW/m².
+unfoldable pub flux-bound : ℕ → Bound → Bound
+flux-bound method F = B.product (emissive-bound method) F
+
+-- How wide q is at most, in trillionths of a kW/m², by method and face: at any height, and level with the base.
+unfoldable pub width-of : ℕ → ℕ → ℕ
+width-of method face = max ((flux-bound method (above-bound face)) .width) ((flux-bound method (below-bound face)) .width)
+
+unfoldable pub level-width-of : ℕ → ℕ → ℕ
+level-width-of method face = (flux-bound method (level-bound face)) .width
+
+pub widths : (width-of 1 1 ≡ 1_669_700_001) × (width-of 1 2 ≡ 1_117_500_001) × (width-of 1 3 ≡ 1_669_700_001) × (width-of 2 1 ≡ 5_702_500_001) × (width-of 2 2 ≡ 3_634_700_001) × (width-of 2 3 ≡ 5_702_500_001)
+unfolding width-of flux-bound emissive-bound above-bound below-bound by-face B.product B.sum B.difference B.larger bound up
+widths = (refl, refl, refl, refl, refl, refl)
+
+pub level-widths : (level-width-of 1 1 ≡ 190_100_001) × (level-width-of 1 2 ≡ 165_600_001) × (level-width-of 1 3 ≡ 190_100_001) × (level-width-of 2 1 ≡ 668_500_001) × (level-width-of 2 2 ≡ 545_200_001) × (level-width-of 2 3 ≡ 668_500_001)
+unfolding level-width-of flux-bound emissive-bound level-bound by-face B.product B.larger bound up
+level-widths = (refl, refl, refl, refl, refl, refl)
+
+-- ---- whatever the method, the face and the height: nothing refuses, and q is narrow
+-- 20 W/m² as printed leave q 19 W/m².
+abbrev pub flux-limit : Bound
+flux-limit = record { least = 0; most = 4_100 * U; width = 19_000_000_000; safe = true }
+
+-- Both methods, on each of the faces.
+abbrev face-tests : Bound → List Bool → List Bool
+face-tests F rest = passing flux-limit (B.product emissive-bound-1 F) ∷ passing flux-limit (B.product emissive-bound-2 F) ∷ rest
+
+abbrev flux-tests : Bound → Bound → List Bool
+flux-tests upright level = face-tests upright (face-tests level (face-tests (B.larger upright level) []))
+
+either : (P : Bound → Type 0) (b : Bool) {x y : Bound} → P x → P y → P (elim b [ true ↦ x | false ↦ y ])
+either P true h k = h
+either P false h k = k
+
+by-method : (method : ℕ) (F : Bound) → T (passing flux-limit (B.product emissive-bound-1 F)) → T (passing flux-limit (B.product emissive-bound-2 F)) → Passed flux-limit (flux-bound method F)
+unfolding flux-bound emissive-bound
+by-method method F s t =
+    either (λ b. Passed flux-limit (B.product b F)) (eqb method 1) (tests-passed flux-limit _ s) (tests-passed flux-limit _ t)
+
+by-method-and-face : (upright level : Bound) → T (every (flux-tests upright level)) → (method face : ℕ) → Passed flux-limit (flux-bound method (by-face bounds face upright level))
+unfolding by-face
+by-method-and-face upright level t method face =
+    let c = each (flux-tests upright level) t in
+    let c₂ = c .1 .1 in
+    let c₄ = c₂ .1 .1 in
+    either (λ b. Passed flux-limit (flux-bound method b)) (eqb face 1) (by-method method upright (c .0) (c .1 .0))
+    (either (λ b. Passed flux-limit (flux-bound method b)) (eqb face 2) (by-method method level (c₂ .0) (c₂ .1 .0))
+    (by-method method (B.larger upright level) (c₄ .0) (c₄ .1 .0)))
+
+above-passed : (method face : ℕ) → Passed flux-limit (flux-bound method (above-bound face))
+unfolding above-bound passing B.product B.sum B.difference B.larger bound up down
+above-passed = by-method-and-face _ _ tt
+
+below-passed : (method face : ℕ) → Passed flux-limit (flux-bound method (below-bound face))
+unfolding below-bound passing B.product B.difference B.larger bound up down
+below-passed = by-method-and-face _ _ tt
+
+level-passed : (method face : ℕ) → Passed flux-limit (flux-bound method (level-bound face))
+unfolding level-bound passing B.product B.larger bound up down
+level-passed = by-method-and-face _ _ tt
+
+pub width-small : (method face : ℕ) → width-of method face ≤ flux-limit .width
+unfolding width-of
+width-small method face = max-le (above-passed method face .width) (below-passed method face .width)
+
+-- ---- one enquiry
+-- A width, on rounded pairs.
+near-of : {f : Figures} {p : Pair} {b : Bound} (w : ℕ) → f .pair ≡ p → Held f b → b .width ≤ w → p .high ≤ p .low + w
+near-of {b = b} w same h wide = let i = subst (λ p. Inside p b) same (h .inside) in omega (arith, i .near)
+
+abbrev height-bound : Bool → ℕ → Bound
+height-bound from-the-base-up face = elim from-the-base-up [ true ↦ above-bound face | false ↦ below-bound face ]
+
+module _ (E : Enquiry) (t : Tested E) where
+  lengths : Lengths (relative-height-of answers E) (relative-elevation-of answers E) (relative-distance-of answers E)
+  lengths =
+      let w = t .limited in
+      let d = between 1_000 200_000 (E .distance) (w .distance) in
+      let s = chain.area-of E (w .fuel) (w .area) in
+      let f = s .flame .high (chain.high-enough E (chain.within-limits-not-refused E (w .fuel) (w .area)) (t .flame)) in
+      record {
+        height = f .height;
+        height-near = f .height-near (d .low) (d .high);
+        elevation = chain.lengths E t .elevation;
+        distance = record { held = s .distance (d .low) (d .high); near = s .distance-near (d .low) (d .high) };
+      }
+
+  power-held : Held (emissive-power-of answers E) (emissive-bound (E .method))
+  unfolding emissive-power-of emissive-power emissive-bound
+  power-held = let s = chain.lengths E t in choice-kept Held (eqb (E .method) 1) (s .power-1) (s .power-2)
+
+  at-height : (from-the-base-up : Bool) → Held (answers .product (emissive-power-of answers E) (factor-at answers from-the-base-up (E .face) (relative-height-of answers E) (relative-elevation-of answers E) (relative-distance-of answers E))) (flux-bound (E .method) (height-bound from-the-base-up (E .face)))
+  unfolding flux-bound
+  at-height true = within .product (known power-held) (above-within lengths (E .face)) .where-safe (above-passed (E .method) (E .face) .safe)
+  at-height false = within .product (known power-held) (below-within lengths (E .face)) .where-safe (below-passed (E .method) (E .face) .safe)
+
+  within-width : (from-the-base-up : Bool) → (flux-bound (E .method) (height-bound from-the-base-up (E .face))) .width ≤ width-of (E .method) (E .face)
+  unfolding width-of
+  within-width true = le-max-left _ _
+  within-width false = le-max-right _ _
+
+  pub flux-near : (radiant-flux rounded E) .high ≤ (radiant-flux rounded E) .low + width-of (E .method) (E .face)
+  unfolding radiant-flux configuration-factor-of
+  flux-near =
+      let h = at-height (nonNeg (E .height)) in
+      near-of (width-of (E .method) (E .face)) (radiant-flux-kept agreement E .same (h .given)) h (within-width (nonNeg (E .height)))
+
+  level-held : Held (answers .product (emissive-power-of answers E) (factor answers (E .face) (relative-height-of answers E) (relative-distance-of answers E))) (flux-bound (E .method) (level-bound (E .face)))
+  unfolding flux-bound
+  level-held = within .product (known power-held) (level-within lengths (E .face)) .where-safe (level-passed (E .method) (E .face) .safe)
+
+  pub level-near : E .height ≡ pos 0 → (radiant-flux rounded E) .high ≤ (radiant-flux rounded E) .low + level-width-of (E .method) (E .face)
+  unfolding level-width-of
+  level-near level =
+      let K = agreement .product (emissive-power-of-kept agreement E) (factor-kept agreement (E .face) (relative-height-of-kept agreement E) (relative-distance-of-kept agreement E)) in
+      rw (flux-level E level) (near-of ((flux-bound (E .method) (level-bound (E .face))) .width) (K .same (level-held .given)) level-held (le-refl _))
