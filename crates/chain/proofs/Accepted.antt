@@ -21,7 +21,7 @@ use Rattle.chain.proofs.Bounds.{Bound, bound}
 use Rattle.chain.proofs.Inside.{Inside}
 use Rattle.chain.proofs.Within.{Held, within}
 use Rattle.chain.proofs.Steps.{diameter-of-kept, unabsorbed-of-kept, heat-release-of-kept, flame-height-of-kept, radiant-flux-kept}
-use Rattle.chain.proofs.Boxes.{known, passing, passed, either-held}
+use Rattle.chain.proofs.Boxes.{known, passing, passed, either}
 use Rattle.chain.proofs.Configuration.{relative-height-bound, elevation-bound, relative-distance-bound, spaced, factor-at-held}
 use Rattle.chain.proofs.Flame.{emissive-bound-1, emissive-bound-2, Area}
 use Rattle.chain.proofs.Areas.{areas}
@@ -92,7 +92,7 @@ flux-bound = record { least = 0; most = 6_300 * U; width = 2_000 * U; safe = tru
 
 power-held : (E : Enquiry) → Lengths E → Held (emissive-power-of answers E) emissive-bound-2
 unfolding emissive-power-of emissive-power passing
-power-held E s = either-held (eqb (E .method) 1) (passed emissive-bound-2 tt (known (s .power-1))) (s .power-2)
+power-held E s = either (λ f. Held f emissive-bound-2) (eqb (E .method) 1) (passed emissive-bound-2 tt (known (s .power-1))) (s .power-2)
 
 flux-held : (E : Enquiry) → Tested E → Held (radiant-flux answers E) flux-bound
 unfolding radiant-flux configuration-factor-of passing B.product bound up down

@@ -35,10 +35,10 @@ known h = record { where-safe = λ _. h }
 pub below-last : {f : Figures} {b : Bound} → Held f b → f .pair .low < suc (b .most)
 below-last {f} {b} h = omega (arith, h .inside .ordered, h .inside .high)
 
--- A choice of two that are both bounded so.
-pub either-held : (b : Bool) {f g : Figures} {c : Bound} → Held f c → Held g c → Held (elim b [ true ↦ f | false ↦ g ]) c
-either-held true h k = h
-either-held false h k = k
+-- What holds of both holds of the one chosen.
+pub either : {X : Type 0} (P : X → Type 0) (b : Bool) {x y : X} → P x → P y → P (elim b [ true ↦ x | false ↦ y ])
+either P true h k = h
+either P false h k = k
 
 -- Inside a bound, so inside a wider one.
 pub loosen : {f : Figures} {b : Bound} (c : Bound) → c .least ≤ b .least → b .most ≤ c .most → b .width ≤ c .width → Held f b → Held f c

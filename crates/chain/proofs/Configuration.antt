@@ -1,20 +1,19 @@
 -- Step 7 for a target at any height: nothing refuses where l, h and e lie in the spans that follow, and how large the factor is.
 -- By one sweep over y and e with large boxes, which show ranges and no widths. Assumes nothing.
-use mathlib.Core.Path.{_≡_}
 use mathlib.Core.Bool.{Bool, true, false}
-use Prim.Native.Nat.{ℕ, _+_, _*_, _-_, _/_, _≤_, zero-le}
+use Prim.Native.Nat.{ℕ, _+_, _*_, _-_, _/_, zero-le}
 use native.Mathlib.Nat.{le-refl}
 use native.Mathlib.Omega.{arith}
 use lib.Dec.{T, eqb}
 use Rattle.pairs.specs.Rounded.{U}
 use Rattle.pairs.specs.Figures.{Figures}
 use Rattle.pairs.specs.Answers.{answers}
-use Rattle.chain.specs.Chain.{vertical, horizontal, by-face, vertical-above, horizontal-above, vertical-below, horizontal-below, factor-at}
+use Rattle.chain.specs.Chain.{by-face, vertical-above, horizontal-above, vertical-below, horizontal-below, factor-at}
 use Rattle.chain.specs.Private.{Spaced}
 use Rattle.chain.proofs.Bounds as B
 use Rattle.chain.proofs.Bounds.{Bound, bound}
 use Rattle.chain.proofs.Within.{Held, within}
-use Rattle.chain.proofs.Boxes.{known, passing, passed, either-held}
+use Rattle.chain.proofs.Boxes.{known, passing, passed, either}
 use Rattle.chain.proofs.Opened.{opened}
 use Rattle.chain.proofs.FactorSweep.{Grid, box-test, height-sweep, factor-sweep, Factors, factors}
 
@@ -87,7 +86,8 @@ factor-bound = record { least = 0; most = 34 * U; width = 6 * U; safe = true }
 by-face-held : (face : ℕ) {f g : Figures} → Held f factor-bound → Held g factor-bound → Held (by-face answers face f g) factor-bound
 unfolding by-face passing B.larger bound
 by-face-held face p q =
-    either-held (eqb face 1) p (either-held (eqb face 2) q (passed factor-bound tt (within .larger (known p) (known q))))
+    let held : Figures → Type 0 = λ f. Held f factor-bound in
+    either held (eqb face 1) p (either held (eqb face 2) q (passed factor-bound tt (within .larger (known p) (known q))))
 
 module _ (l : Figures) {h e : Figures} (E : Spaced e) (H : Held h seen-bound) where
   pub above-held :

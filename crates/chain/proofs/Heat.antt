@@ -13,6 +13,7 @@ use Rattle.pairs.proofs.Rounding.{up-covers, down-covers}
 use Rattle.pairs.proofs.Agreement.{agreement}
 use Rattle.chain.specs.declared.enquiry.Enquiry.{Enquiry}
 use Rattle.chain.specs.Chain.{heat-release, unabsorbed-of, heat-release-of}
+use Rattle.chain.proofs.Inside.{rounded-near}
 use Rattle.chain.proofs.Within.{Held}
 use Rattle.chain.proofs.Steps.{unabsorbed-of-kept, heat-release-of-kept}
 use Rattle.chain.proofs.Exponential.{exp-bound}
@@ -20,10 +21,6 @@ use Rattle.chain.proofs.Exponential.{exp-bound}
 -- How wide Q is at most where its low end is at most b and 1-X at least the least.
 unfoldable pub heat-width : ℕ → ℕ → ℕ
 heat-width least b = up ((b + 1) * exp-bound .width) least + 1
-
-rounded-near : (x y z K : ℕ) → y ≤ x + z → z ≤ K * U → up y U ≤ down x U + (K + 1)
-unfolding up down
-rounded-near x y z K h k = omega arith
 
 -- S times a factor from N to N', at most w apart.
 product-near : (S N N' w least b : ℕ) → zero < least → least ≤ N → N' ≤ N + w → down (S * N) U ≤ b → up (S * N') U ≤ down (S * N) U + (up ((b + 1) * w) least + 1)

@@ -62,9 +62,9 @@ product-width : (a b c d M N X W : ℕ) → b ≤ a + X → d ≤ c + W → b �
 product-width a b c d M N X W h k i j l =
     omega (arith, mul-le-mul-left b k, mul-add b c W, mul-le-mul-right c h, add-mul a X c, mul-le-mul-right W i, mul-le-mul-left X (le-trans l j))
 
-rounded-near : (x y z : ℕ) → y ≤ x + z → up y U ≤ down x U + (up z U + 1)
+pub rounded-near : (x y z k : ℕ) → y ≤ x + z → z ≤ k * U → up y U ≤ down x U + (k + 1)
 unfolding up down
-rounded-near x y z l = omega arith
+rounded-near x y z k h l = omega arith
 
 pub product-inside : {p q : Pair} {b c : Bound} → Inside p b → Inside q c → Inside (R.product p q) (B.product b c)
 unfolding R.product B.product bound
@@ -74,8 +74,9 @@ product-inside {p} {q} {b} {c} h k =
       ordered = O.product-ordered (in-order h) (in-order k) .ends;
       high = up-grows (lit< {n = U} tt) (le-refl U) (mul-le-mul (h .high) (k .high));
       near =
-          rounded-near (p .low * q .low) (p .high * q .high) (b .most * c .width + b .width * c .most)
-          (product-width (p .low) (p .high) (q .low) (q .high) (b .most) (c .most) (b .width) (c .width) (h .near) (k .near) (h .high) (k .high) (k .ordered));
+          rounded-near (p .low * q .low) (p .high * q .high) (b .most * c .width + b .width * c .most) _
+          (product-width (p .low) (p .high) (q .low) (q .high) (b .most) (c .most) (b .width) (c .width) (h .near) (k .near) (h .high) (k .high) (k .ordered))
+          (up-covers (b .most * c .width + b .width * c .most) U (lit< {n = U} tt));
     }
 
 pub over-inside : {p : Pair} {b : Bound} → Inside p b → (n : ℕ) → zero < n → Inside (R.over p n) (B.over b n)

@@ -1,4 +1,5 @@
 -- Document 01, "Chain": steps 1 to 8 over any arithmetic, each with its formula in ISO 24678-7; with the heights of request 1.
+-- A height is an integer: `natAbs` is its magnitude, `nonNeg` says that it is not negative.
 use Prim.Native.Nat.{ℕ, _*_}
 use mathlib.Core.Bool.{Bool, true, false}
 use lib.Dec.{eqb}

@@ -35,7 +35,7 @@ pub(crate) struct Entry {
     pub(crate) note: u8,
 }
 
-// The numbers of "One flux".
+// The numbers of "One flux", and 18 of request 1.
 fn number(why: Turned) -> u8
     ensures { λ r. ⌜ r ≡ number-of why ⌝ }
 {

@@ -19,7 +19,7 @@ use Rattle.chain.proofs.FactorSweep.{Factors}
 use Rattle.widths.proofs.FineSweep.{vertical-bound, horizontal-bound, vertical-bound-at-base, horizontal-bound-at-base, any-height, at-the-base, Distance, narrow-height, factors-at, level-factors}
 
 -- l, h and e of one enquiry: where they lie, and how wide they are.
-pub record Lengths (l h e : Figures) : Type 0 where
+pub record Placement (l h e : Figures) : Type 0 where
   pub height : Held l relative-height-bound
   pub height-near : l .pair .high ≤ l .pair .low + flame-width (e .pair .low)
   pub elevation : Held h elevation-bound
@@ -36,7 +36,7 @@ unfoldable pub below-bound : ℕ → Bound
 below-bound face =
     by-face bounds face (B.difference vertical-bound vertical-bound) (B.difference horizontal-bound horizontal-bound)
 
-module _ {l h e : Figures} (s : Lengths l h e) where
+module _ {l h e : Figures} (s : Placement l h e) where
   narrow : Held l (narrow-height (e .pair .low))
   narrow =
       let i = s .height .inside in

@@ -21,12 +21,12 @@ use Rattle.chain.proofs.Bounds.{Bound, bound, bounds}
 use Rattle.chain.proofs.Inside.{Inside}
 use Rattle.chain.proofs.Within.{Held, within}
 use Rattle.chain.proofs.Steps.{choice-kept, factor-kept, emissive-power-of-kept, relative-height-of-kept, relative-distance-of-kept, radiant-flux-kept}
-use Rattle.chain.proofs.Boxes.{known, passing, Passed, tests-passed, every, each}
+use Rattle.chain.proofs.Boxes.{known, passing, Passed, tests-passed, every, each, either}
 use Rattle.chain.proofs.Flame.{emissive-bound-1, emissive-bound-2}
 use Rattle.chain.proofs.Limits.{Tested, between}
 use Rattle.chain.proofs.Accepted as chain
 use Rattle.chain.proofs.Level.{flux-level}
-use Rattle.widths.proofs.FactorWidths.{Lengths, level-bound, above-bound, below-bound, level-within, above-within, below-within}
+use Rattle.widths.proofs.FactorWidths.{Placement, level-bound, above-bound, below-bound, level-within, above-within, below-within}
 
 -- ---- bounds of q
 unfoldable pub emissive-bound : ℕ → Bound
@@ -62,10 +62,6 @@ face-tests F rest = passing flux-limit (B.product emissive-bound-1 F) ∷ passin
 
 abbrev flux-tests : Bound → Bound → List Bool
 flux-tests upright level = face-tests upright (face-tests level (face-tests (B.larger upright level) []))
-
-either : (P : Bound → Type 0) (b : Bool) {x y : Bound} → P x → P y → P (elim b [ true ↦ x | false ↦ y ])
-either P true h k = h
-either P false h k = k
 
 by-method : (method : ℕ) (F : Bound) → T (passing flux-limit (B.product emissive-bound-1 F)) → T (passing flux-limit (B.product emissive-bound-2 F)) → Passed flux-limit (flux-bound method F)
 unfolding flux-bound emissive-bound
@@ -107,8 +103,8 @@ abbrev height-bound : Bool → ℕ → Bound
 height-bound from-the-base-up face = elim from-the-base-up [ true ↦ above-bound face | false ↦ below-bound face ]
 
 module _ (E : Enquiry) (t : Tested E) where
-  lengths : Lengths (relative-height-of answers E) (relative-elevation-of answers E) (relative-distance-of answers E)
-  lengths =
+  placement : Placement (relative-height-of answers E) (relative-elevation-of answers E) (relative-distance-of answers E)
+  placement =
       let w = t .limited in
       let d = between 1_000 200_000 (E .distance) (w .distance) in
       let s = chain.area-of E (w .fuel) (w .area) in
@@ -126,8 +122,8 @@ module _ (E : Enquiry) (t : Tested E) where
 
   at-height : (from-the-base-up : Bool) → Held (answers .product (emissive-power-of answers E) (factor-at answers from-the-base-up (E .face) (relative-height-of answers E) (relative-elevation-of answers E) (relative-distance-of answers E))) (flux-bound (E .method) (height-bound from-the-base-up (E .face)))
   unfolding flux-bound
-  at-height true = within .product (known power-held) (above-within lengths (E .face)) .where-safe (above-passed (E .method) (E .face) .safe)
-  at-height false = within .product (known power-held) (below-within lengths (E .face)) .where-safe (below-passed (E .method) (E .face) .safe)
+  at-height true = within .product (known power-held) (above-within placement (E .face)) .where-safe (above-passed (E .method) (E .face) .safe)
+  at-height false = within .product (known power-held) (below-within placement (E .face)) .where-safe (below-passed (E .method) (E .face) .safe)
 
   within-width : (from-the-base-up : Bool) → (flux-bound (E .method) (height-bound from-the-base-up (E .face))) .width ≤ width-of (E .method) (E .face)
   unfolding width-of
@@ -142,7 +138,7 @@ module _ (E : Enquiry) (t : Tested E) where
 
   level-held : Held (answers .product (emissive-power-of answers E) (factor answers (E .face) (relative-height-of answers E) (relative-distance-of answers E))) (flux-bound (E .method) (level-bound (E .face)))
   unfolding flux-bound
-  level-held = within .product (known power-held) (level-within lengths (E .face)) .where-safe (level-passed (E .method) (E .face) .safe)
+  level-held = within .product (known power-held) (level-within placement (E .face)) .where-safe (level-passed (E .method) (E .face) .safe)
 
   pub level-near : E .height ≡ pos 0 → (radiant-flux rounded E) .high ≤ (radiant-flux rounded E) .low + level-width-of (E .method) (E .face)
   unfolding level-width-of
