@@ -6,5 +6,6 @@ pub mod Places
 pub mod Filling
 pub mod Printing
 pub mod Longest
+pub mod Former
 pub mod Own
 pub mod Benchmarks

@@ -1,0 +1,34 @@
+-- A sheet laid out as before request 1, seven bytes a target, is refused by 1 where it has any target: it is never misread.
+-- It ends before eleven bytes for each of them do. Assumes nothing.
+use mathlib.Core.Path.{_≡_, _∙_}
+use mathlib.Core.List.{List}
+use Prim.Native.Nat.{ℕ, _+_, _*_, _≤_, _<_}
+use native.Mathlib.Omega.{arith}
+use lib.ListN.{length}
+use borrow.Author.Tests.{lt-ltb, le-ltb}
+use Rattle.sheet.specs.Layout.{count-size, fuel-size, most-fuels, pool-size, most-pools, target-size, most-targets, pools-start, targets-start}
+use Rattle.sheet.specs.Bytes.{two}
+use Rattle.sheet.specs.Reading.{Outcome, refused, section, fuels-of, pools-of, targets-of, after-sections, from-targets, from-pools, reading-of}
+
+abbrev pub former-end : ℕ → ℕ → ℕ → ℕ
+former-end fuels pools targets = targets-start fuels pools + count-size + 7 * targets
+
+module _ (s : List ℕ) (start size most : ℕ) (rest : Outcome) (few : two s start ≤ most) where
+  passed : start + count-size + size * two s start ≤ length s → section s start size most rest ≡ rest
+  unfolding section
+  passed h =
+      rw (le-ltb (length s) (start + count-size) (omega arith), le-ltb most (two s start) few, le-ltb (length s) (start + count-size + size * two s start) h)
+
+  cut-short : start + count-size ≤ length s → length s < start + count-size + size * two s start → section s start size most rest ≡ refused 1
+  unfolding section
+  cut-short h k =
+      rw (le-ltb (length s) (start + count-size) h, le-ltb most (two s start) few, lt-ltb (length s) (start + count-size + size * two s start) k)
+
+pub former-refused :
+    (s : List ℕ) → fuels-of s ≤ most-fuels → pools-of s ≤ most-pools → targets-of s ≤ most-targets → 1 ≤ targets-of s
+    → length s ≡ former-end (fuels-of s) (pools-of s) (targets-of s) → reading-of s ≡ refused 1
+unfolding reading-of from-pools from-targets fuels-of pools-of targets-of
+former-refused s f p t some e =
+    passed s 0 fuel-size most-fuels (from-pools s) f (omega arith)
+    ∙ passed s (pools-start (fuels-of s)) pool-size most-pools (from-targets s) p (omega arith)
+    ∙ cut-short s (targets-start (fuels-of s) (pools-of s)) target-size most-targets (after-sections s) t (omega arith) (omega arith)
