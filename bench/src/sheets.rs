@@ -1,27 +1,16 @@
 //! Times `fill` of the proved library beside that of the Rust version by other hands, on the same sheets, and compares their bytes.
 
+#[path = "../../compare/src/proved.rs"]
+mod proved;
+
 use crate::stepped;
+use proved::REQUESTS;
 use std::hint::black_box;
 use std::time::Instant;
-
-/// How many change requests are in force.
-const REQUESTS: u8 = 1;
 
 const TARGETS: u64 = 512;
 const SHEETS: u64 = 4;
 const RUNS: usize = 40;
-
-mod proved {
-    extern "C" {
-        /// A slice of Rattle is a pointer and a length.
-        fn fill(sheet: *const u8, sheet_len: usize, out: *mut u8, out_len: usize) -> u8;
-    }
-
-    pub fn fill_into(sheet: &[u8], out: &mut [u8]) -> u8 {
-        // The two slices are valid and apart, and the library keeps neither.
-        unsafe { fill(sheet.as_ptr(), sheet.len(), out.as_mut_ptr(), out.len()) }
-    }
-}
 
 /// A random number from `low` to `high`.
 fn between(x: &mut u64, low: u64, high: u64) -> u64 {

@@ -5,26 +5,14 @@
 //! Each sheet is filled into a buffer that is too short, one that is exact and one that is too long. Every byte is
 //! compared, those past the targets too. Exit status 1 and the sheet where the two differ.
 
+mod proved;
+
+use proved::REQUESTS;
 use reference::random::{between, next};
 use std::process::exit;
 
-/// How many change requests are in force.
-const REQUESTS: u8 = 1;
-
 /// Bytes of a sheet that is longer than any accepted one: the two must agree on those too.
 const LONGEST: usize = 8_000;
-
-mod proved {
-    extern "C" {
-        /// A slice of Rattle is a pointer and a length.
-        fn fill(sheet: *const u8, sheet_len: usize, out: *mut u8, out_len: usize) -> u8;
-    }
-
-    pub fn fill_into(sheet: &[u8], out: &mut [u8]) -> u8 {
-        // The two slices are valid and apart, and the library keeps neither.
-        unsafe { fill(sheet.as_ptr(), sheet.len(), out.as_mut_ptr(), out.len()) }
-    }
-}
 
 /// A sheet of `reference random`, or at times bytes of no form at all.
 fn any_sheet(state: &mut u64) -> Vec<u8> {

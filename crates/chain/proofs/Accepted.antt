@@ -56,8 +56,8 @@ unfolding flame-too-low
 high-enough E h e =
     rw (h .diameter-given, h .flame-height-given) (not-less (4 * (flame-height-of rounded E) .low) ((diameter-of rounded E) .high) e)
 
--- What the sweeps say of steps 6 to 8.
-pub record Lengths (E : Enquiry) : Type 0 where
+-- What the sweeps say of E, l, h and e.
+pub record Bounded (E : Enquiry) : Type 0 where
   pub height : Held (relative-height-of answers E) relative-height-bound
   pub elevation : Held (relative-elevation-of answers E) elevation-bound
   pub distance : Held (relative-distance-of answers E) relative-distance-bound
@@ -72,9 +72,9 @@ distance-held E w =
 pub distance-spaced : (E : Enquiry) → Limited E → Spaced (relative-distance-of answers E)
 distance-spaced E w = spaced (distance-held E w)
 
-pub lengths : (E : Enquiry) → Tested E → Lengths E
+pub bounded : (E : Enquiry) → Tested E → Bounded E
 unfolding relative-elevation-of
-lengths E t =
+bounded E t =
     let w = t .limited in
     let s = area-of E (w .fuel) (w .area) in
     let f = s .flame .high (high-enough E (within-limits-not-refused E (w .fuel) (w .area)) (t .flame)) in
@@ -90,14 +90,14 @@ lengths E t =
 abbrev flux-bound : Bound
 flux-bound = record { least = 0; most = 6_300 * U; width = 2_000 * U; safe = true }
 
-power-held : (E : Enquiry) → Lengths E → Held (emissive-power-of answers E) emissive-bound-2
+power-held : (E : Enquiry) → Bounded E → Held (emissive-power-of answers E) emissive-bound-2
 unfolding emissive-power-of emissive-power passing
 power-held E s = either (λ f. Held f emissive-bound-2) (eqb (E .method) 1) (passed emissive-bound-2 tt (known (s .power-1))) (s .power-2)
 
 flux-held : (E : Enquiry) → Tested E → Held (radiant-flux answers E) flux-bound
 unfolding radiant-flux configuration-factor-of passing B.product bound up down
 flux-held E t =
-    let s = lengths E t in
+    let s = bounded E t in
     passed flux-bound tt
     (within .product (known (power-held E s))
     (known (factor-at-held (s .height) (s .elevation) (spaced (s .distance)) (nonNeg (E .height)) (E .face))))

@@ -112,13 +112,13 @@ module _ (E : Enquiry) (t : Tested E) where
       record {
         height = f .height;
         height-near = f .height-near (d .low) (d .high);
-        elevation = chain.lengths E t .elevation;
+        elevation = chain.bounded E t .elevation;
         distance = record { held = s .distance (d .low) (d .high); near = s .distance-near (d .low) (d .high) };
       }
 
   power-held : Held (emissive-power-of answers E) (emissive-bound (E .method))
   unfolding emissive-power-of emissive-power emissive-bound
-  power-held = let s = chain.lengths E t in choice-kept Held (eqb (E .method) 1) (s .power-1) (s .power-2)
+  power-held = let s = chain.bounded E t in choice-kept Held (eqb (E .method) 1) (s .power-1) (s .power-2)
 
   at-height : (from-the-base-up : Bool) → Held (answers .product (emissive-power-of answers E) (factor-at answers from-the-base-up (E .face) (relative-height-of answers E) (relative-elevation-of answers E) (relative-distance-of answers E))) (flux-bound (E .method) (height-bound from-the-base-up (E .face)))
   unfolding flux-bound
