@@ -1,4 +1,3 @@
--- The table of starting roots, the even scaling, and Newton's steps.
-pub mod Table
+-- The even scaling, the first steps, and Newton's steps.
 pub mod Scaling
 pub mod Newton

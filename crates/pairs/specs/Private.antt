@@ -1,8 +1,5 @@
 -- Vocabulary of private functions' contracts. No public contract uses it.
-use Prim.Native.Nat.{ℕ, suc, _+_, _*_, _/_, _≤_, _<_}
-use mathlib.Core.Bool.{Bool, true, _&&_}
-use mathlib.Core.List.{List, [], _∷_}
-use lib.Dec.{leb, ltb}
+use Prim.Native.Nat.{ℕ, _+_, _*_, _/_, _≤_, _<_}
 use Rattle.pairs.specs.Rounded.{U}
 
 -- n over U: rounded down where extra is 0, and up where it is 999,999, since 999,999·1,000,001 is U - 1.
@@ -19,12 +16,3 @@ pub record Brackets (extra t lower upper : ℕ) : Type 0 where
   pub limit : upper ≤ 28_391_212_775_636
   pub within : fourth-power extra lower * lower ≤ t
   pub beyond : t < fourth-power extra upper * upper
-
--- "row i for i from 256 to 1,023 holding the whole part of the root of 65,536·i": row² ≤ 65,536·i < (row + 1)².
-unfoldable pub square-rule : ℕ → ℕ → Bool
-square-rule i row = leb (row * row) (65_536 * i) && ltb (65_536 * i) ((row + 1) * (row + 1))
-
--- The rule at every row, the first being that of i.
-unfoldable pub every-row : ℕ → List ℕ → Bool
-every-row i [] = true
-every-row i (row ∷ rows) = square-rule i row && every-row (suc i) rows

@@ -1,21 +1,20 @@
--- The even scaling of a radicand by its leading zero bits, and the two steps that start its root.
+-- The even scaling of a radicand by its leading zero bits, and the two steps from its starting number.
 -- Assumes nothing.
 use mathlib.Core.Path.{_≡_, sym, ap, _∙_}
 use Prim.Native.Nat.{ℕ, zero, _+_, _*_, _-_, _/_, _%_, _^_, _≤_, _<_}
-use native.Mathlib.Nat.{le-trans, mul-le-mul, mul-le-mul-left, mul-le-mul-right, mul-comm, le-div-iff-mul-le, div-lt-iff-lt-mul}
+use native.Mathlib.Nat.{le-trans, mul-le-mul, mul-le-mul-left, mul-le-mul-right, mul-comm, mul-assoc, add-comm, le-div-iff-mul-le, div-lt-iff-lt-mul, mod-eq-of-lt, div-div-eq-div-mul, add-mul-div-right, mul-div-mul-right}
 use native.Mathlib.Decide.{decLt, decLe}
 use native.Mathlib.Omega.{arith}
-use lib.Dec.{T, leb, ltb, leb→le, ltb→lt}
-use lib.Ieee.Fits.{and-l, and-r}
 use lib.Pow.{pow-pos, pow-mono, pow-add}
 use lib.Count.{leadingZeros, leading-top}
-use Rattle.pairs.specs.Private.{square-rule}
+use Rattle.pairs.specs.Rounded.{root-down}
+use Rattle.pairs.proofs.Search.{root-down-passes, root-down-bound}
 use Rattle.pairs.proofs.Ordered.{square-cancels}
 
-quotient-lt : (n d m : ℕ) → zero < d → n < m * d → n / d < m
+pub quotient-lt : (n d m : ℕ) → zero < d → n < m * d → n / d < m
 quotient-lt n d m p h = div-lt-iff-lt-mul {k = d} {x = n} {y = m} p .1 h
 
--- two steps from the scaled row of a word's ten upper bits stay within 36 bits
+-- two steps from the scaled starting number of a word's ten upper bits stay within 36 bits
 pub record Steps (w r : ℕ) : Type 0 where
   pub least : 4096 ≤ r
   pub most : r ≤ 8191
@@ -23,15 +22,11 @@ pub record Steps (w r : ℕ) : Type 0 where
   pub second : 2 ^ 30 ≤ (r * 524_288 + w / (r * 524_288)) / 2
   pub quotient-2 : w / ((r * 524_288 + w / (r * 524_288)) / 2) < 2 ^ 34
 
-pub steps : (w r : ℕ) → 2 ^ 62 ≤ w → w < 2 ^ 64 → T (square-rule (w / 2 ^ 54) r) → Steps w r
-unfolding square-rule
-steps w r h f t =
-    let i = w / 2 ^ 54 in
-    let below = leb (r * r) (65_536 * i) in
-    let above = ltb (65_536 * i) ((r + 1) * (r + 1)) in
-    let l : r * r ≤ 65_536 * i = leb→le _ _ (and-l below above t) in
-    let u : 65_536 * i < (r + 1) * (r + 1) = ltb→lt _ _ (and-r below above t) in
-    let least : 4096 ≤ r = elim (decLe 4096 r) [ yes g ↦ g | no g ↦ absurd (small i r (omega arith) u (mul-le-mul {n₂ = 4096} {m₂ = 4096} (omega arith) (omega arith))) ] in
+pub steps : (w r : ℕ) → 2 ^ 62 ≤ w → w < 2 ^ 64 → r ≡ root-down (65_536 * (w / 2 ^ 54)) → Steps w r
+steps w r h f e =
+    let n = 65_536 * (w / 2 ^ 54) in
+    let l : r * r ≤ n = rw e (root-down-passes n) in
+    let least : 4096 ≤ r = rw e (root-down-bound n 4096 (omega arith)) in
     let second : 2 ^ 30 ≤ (r * 524_288 + w / (r * 524_288)) / 2 = omega arith in
     record {
       least = least;
@@ -40,9 +35,6 @@ steps w r h f t =
       second = second;
       quotient-2 = quotient-lt w ((r * 524_288 + w / (r * 524_288)) / 2) (2 ^ 34) (omega arith) (omega arith);
     }
-  where
-    small : (i r : ℕ) → 256 ≤ i → 65_536 * i < (r + 1) * (r + 1) → (r + 1) * (r + 1) ≤ 4096 * 4096 → ⊥
-    small i r h u m = omega arith
 
 -- a word with its top bit set, halved where the number of zeros was odd
 pub evened : (x z : ℕ) → 2 ^ 63 ≤ x → 2 ^ 62 ≤ x / 2 ^ (z % 2)
@@ -63,23 +55,51 @@ zeros-ge d p f =
     contrary d x a b e = omega arith
 
 -- the bits that the low word lends to a shifted high word
-pub lent-fits : (h l z : ℕ) → z < 64 → h * 2 ^ z < 2 ^ 64 → l < 2 ^ 64 → h * 2 ^ z % 2 ^ 64 + l / 2 ^ (64 - z) < 2 ^ 64
-lent-fits h l z w f g = whole h l (2 ^ z) (2 ^ (64 - z)) (pow-pos z) (pow-pos (64 - z)) both f g
+pub lent-fits : (h l z : ℕ) → z < 64 → h * 2 ^ z < 2 ^ 64 → l < 2 ^ 64 → h * 2 ^ z % 2 ^ 64 + l / 2 / 2 ^ (63 - z) < 2 ^ 64
+lent-fits h l z w f g =
+    rw (div-div-eq-div-mul l 2 (2 ^ (63 - z))) (whole h l (2 ^ z) (2 * 2 ^ (63 - z)) (omega (arith, pow-pos (63 - z))) both f g)
   where
-    both : 2 ^ z * 2 ^ (64 - z) ≡ 2 ^ 64
-    both = sym (pow-add 2 z (64 - z)) ∙ ap (λ (k : ℕ). 2 ^ k) (together z w)
+    both : 2 ^ z * (2 * 2 ^ (63 - z)) ≡ 2 ^ 64
+    both = omega (arith, sym (pow-add 2 z (63 - z)) ∙ ap (λ (k : ℕ). 2 ^ k) (together z w))
       where
-        together : (z : ℕ) → z < 64 → z + (64 - z) ≡ 64
+        together : (z : ℕ) → z < 64 → z + (63 - z) ≡ 63
         together z w = omega arith
 
     full : (h p q : ℕ) → p * q ≡ 2 ^ 64 → h * p < 2 ^ 64 → q * p ≤ h * p → ⊥
     full h p q e f m = omega (arith, mul-comm p q)
 
-    whole : (h l p q : ℕ) → zero < p → zero < q → p * q ≡ 2 ^ 64 → h * p < 2 ^ 64 → l < 2 ^ 64 → h * p % 2 ^ 64 + l / q < 2 ^ 64
-    whole h l p q a b e f g =
+    whole : (h l p q : ℕ) → zero < q → p * q ≡ 2 ^ 64 → h * p < 2 ^ 64 → l < 2 ^ 64 → h * p % 2 ^ 64 + l / q < 2 ^ 64
+    whole h l p q b e f g =
         let k : l / q < p = div-lt-iff-lt-mul {k = q} {x = l} {y = p} b .1 (omega arith) in
         let m : h < q = elim (decLt h q) [ yes i ↦ i | no i ↦ absurd (full h p q e f (mul-le-mul-right {m = q} {n = h} p (omega arith))) ] in
         omega (arith, mul-le-mul-right {m = h + 1} {n = q} p (omega arith), mul-comm p q)
+
+-- the shifts make the upper word of h·2^64 + l times an even power of two
+pub scaled-is : (h l z : ℕ) → z < 64 → h * 2 ^ z < 2 ^ 64
+    → (h * 2 ^ z % 2 ^ 64 + l / 2 / 2 ^ (63 - z)) / 2 ^ (z % 2) ≡ (h * 2 ^ 64 + l) * 2 ^ (2 * (z / 2)) / 2 ^ 64
+scaled-is h l z w f = rw (word, shift) at (by-factors h l (2 ^ (63 - z)) (2 ^ (z % 2)) (2 ^ (2 * (z / 2))) (pow-pos (63 - z)) (pow-pos (2 * (z / 2))) (rw (word, shift) f))
+  where
+    evenly : (z : ℕ) → z % 2 + 2 * (z / 2) ≡ z
+    evenly z = omega arith
+
+    together : (z : ℕ) → z < 64 → 1 + (63 - z) + z ≡ 64
+    together z w = omega arith
+
+    shift : 2 ^ (z % 2) * 2 ^ (2 * (z / 2)) ≡ 2 ^ z
+    shift = sym (pow-add 2 (z % 2) (2 * (z / 2))) ∙ ap (λ (k : ℕ). 2 ^ k) (evenly z)
+
+    word : 2 * 2 ^ (63 - z) * 2 ^ (z % 2) * 2 ^ (2 * (z / 2)) ≡ 2 ^ 64
+    word =
+        mul-assoc (2 * 2 ^ (63 - z)) (2 ^ (z % 2)) (2 ^ (2 * (z / 2))) ∙ ap (λ (x : ℕ). 2 * 2 ^ (63 - z) * x) shift
+        ∙ ap (λ (x : ℕ). x * 2 ^ z) (sym (pow-add 2 1 (63 - z))) ∙ sym (pow-add 2 (1 + (63 - z)) z) ∙ ap (λ (k : ℕ). 2 ^ k) (together z w)
+
+    by-factors : (h l q t m : ℕ) → zero < q → zero < m → h * (t * m) < 2 * q * t * m
+        → (h * (t * m) % (2 * q * t * m) + l / 2 / q) / t ≡ (h * (2 * q * t * m) + l) * m / (2 * q * t * m)
+    by-factors h l q t m a b f =
+        ap (λ (x : ℕ). (x + l / 2 / q) / t) (mod-eq-of-lt f) ∙ ap (λ (x : ℕ). (h * (t * m) + x) / t) (div-div-eq-div-mul l 2 q)
+        ∙ ap (λ (x : ℕ). x / t) (add-comm (h * (t * m)) (l / (2 * q)) ∙ sym (add-mul-div-right l (h * (t * m)) {z = 2 * q} (omega arith)))
+        ∙ div-div-eq-div-mul (l + h * (t * m) * (2 * q)) (2 * q) t ∙ sym (mul-div-mul-right {m = m} (l + h * (t * m) * (2 * q)) (2 * q * t) b)
+        ∙ ap (λ (x : ℕ). x * m / (2 * q * t * m)) (omega arith)
 
 -- the start, shifted to its place, stays below 2^63
 pub shifted-lt : (x z : ℕ) → x < 2 ^ 36 → 24 ≤ z → x * 2 ^ (32 - z / 2) % 2 ^ 64 < 2 ^ 63

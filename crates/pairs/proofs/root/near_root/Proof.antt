@@ -1,4 +1,4 @@
--- `near_root` meets its contract: a row is between 2^12 and 2^13, and the two steps keep the bits of the root.
+-- `near_root` meets its contract: a starting number is between 2^12 and 2^13, and the two steps keep the bits of the root.
 -- Assumes nothing.
 use Prim.Native.Nat.{_-_}
 use native.Mathlib.Omega.{arith}
@@ -7,27 +7,27 @@ use borrow.Author.Needs.{needs}
 use Rattle.pairs.proofs.root.near_root.Statement.{statement}
 use Rattle.pairs.proofs.root.near_root.Tie as tie
 
-row-requires : tie.Need-row-requires
-row-requires c κs = search needs
+starting-number-requires : tie.Need-starting-number-requires
+starting-number-requires c κs = search needs
 
 mul-first : tie.Need-mul-first
-mul-first c = let s = steps (c .before .args .word) (c .row .result) (c .before .pre) (c .before .fits .word .fits) (c .row .ensures) in omega arith
+mul-first c = let s = steps (c .before .args .word) (c .starting-number .result) (c .before .pre) (c .before .fits .word .fits) (c .starting-number .ensures) in omega arith
 
 div-second : tie.Need-div-second
-div-second c = let s = steps (c .before .args .word) (c .row .result) (c .before .pre) (c .before .fits .word .fits) (c .row .ensures) in omega arith
+div-second c = let s = steps (c .before .args .word) (c .starting-number .result) (c .before .pre) (c .before .fits .word .fits) (c .starting-number .ensures) in omega arith
 
 add-second : tie.Need-add-second
-add-second c = let s = steps (c .before .args .word) (c .row .result) (c .before .pre) (c .before .fits .word .fits) (c .row .ensures) in omega arith
+add-second c = let s = steps (c .before .args .word) (c .starting-number .result) (c .before .pre) (c .before .fits .word .fits) (c .starting-number .ensures) in omega arith
 
 div-result : tie.Need-div-result
-div-result c = let s = steps (c .before .args .word) (c .row .result) (c .before .pre) (c .before .fits .word .fits) (c .row .ensures) in omega arith
+div-result c = let s = steps (c .before .args .word) (c .starting-number .result) (c .before .pre) (c .before .fits .word .fits) (c .starting-number .ensures) in omega arith
 
 add-result : tie.Need-add-result
-add-result c = let s = steps (c .before .args .word) (c .row .result) (c .before .pre) (c .before .fits .word .fits) (c .row .ensures) in omega arith
+add-result c = let s = steps (c .before .args .word) (c .starting-number .result) (c .before .pre) (c .before .fits .word .fits) (c .starting-number .ensures) in omega arith
 
 returns : tie.Need-returns
-returns c = let s = steps (c .before .args .word) (c .row .result) (c .before .pre) (c .before .fits .word .fits) (c .row .ensures) in omega arith
+returns c = let s = steps (c .before .args .word) (c .starting-number .result) (c .before .pre) (c .before .fits .word .fits) (c .starting-number .ensures) in omega arith
 
 pub near-root-spec : {M : Type 1} → statement M
 near-root-spec =
-    tie.close (tie.spec row-requires mul-first div-second add-second div-result add-result returns)
+    tie.close (tie.spec starting-number-requires mul-first div-second add-second div-result add-result returns)
