@@ -54,25 +54,26 @@ zeros-ge d p f =
     contrary : (d x : ℕ) → d < 2 ^ 40 → 2 ^ 40 ≤ x → x ≤ d → ⊥
     contrary d x a b e = omega arith
 
+-- a word, split by a shift
+split : (z : ℕ) → z < 64 → 2 * 2 ^ (63 - z) * 2 ^ z ≡ 2 ^ 64
+split z w = ap (λ (x : ℕ). x * 2 ^ z) (sym (pow-add 2 1 (63 - z))) ∙ sym (pow-add 2 (1 + (63 - z)) z) ∙ ap (λ (k : ℕ). 2 ^ k) (together z w)
+  where
+    together : (z : ℕ) → z < 64 → 1 + (63 - z) + z ≡ 64
+    together z w = omega arith
+
 -- the bits that the low word lends to a shifted high word
 pub lent-fits : (h l z : ℕ) → z < 64 → h * 2 ^ z < 2 ^ 64 → l < 2 ^ 64 → h * 2 ^ z % 2 ^ 64 + l / 2 / 2 ^ (63 - z) < 2 ^ 64
 lent-fits h l z w f g =
-    rw (div-div-eq-div-mul l 2 (2 ^ (63 - z))) (whole h l (2 ^ z) (2 * 2 ^ (63 - z)) (omega (arith, pow-pos (63 - z))) both f g)
+    rw (div-div-eq-div-mul l 2 (2 ^ (63 - z))) (whole h l (2 ^ z) (2 * 2 ^ (63 - z)) (omega (arith, pow-pos (63 - z))) (split z w) f g)
   where
-    both : 2 ^ z * (2 * 2 ^ (63 - z)) ≡ 2 ^ 64
-    both = omega (arith, sym (pow-add 2 z (63 - z)) ∙ ap (λ (k : ℕ). 2 ^ k) (together z w))
-      where
-        together : (z : ℕ) → z < 64 → z + (63 - z) ≡ 63
-        together z w = omega arith
+    full : (h p q : ℕ) → q * p ≡ 2 ^ 64 → h * p < 2 ^ 64 → q * p ≤ h * p → ⊥
+    full h p q e f m = omega arith
 
-    full : (h p q : ℕ) → p * q ≡ 2 ^ 64 → h * p < 2 ^ 64 → q * p ≤ h * p → ⊥
-    full h p q e f m = omega (arith, mul-comm p q)
-
-    whole : (h l p q : ℕ) → zero < q → p * q ≡ 2 ^ 64 → h * p < 2 ^ 64 → l < 2 ^ 64 → h * p % 2 ^ 64 + l / q < 2 ^ 64
+    whole : (h l p q : ℕ) → zero < q → q * p ≡ 2 ^ 64 → h * p < 2 ^ 64 → l < 2 ^ 64 → h * p % 2 ^ 64 + l / q < 2 ^ 64
     whole h l p q b e f g =
-        let k : l / q < p = div-lt-iff-lt-mul {k = q} {x = l} {y = p} b .1 (omega arith) in
+        let k : l / q < p = quotient-lt l q p b (omega (arith, mul-comm p q)) in
         let m : h < q = elim (decLt h q) [ yes i ↦ i | no i ↦ absurd (full h p q e f (mul-le-mul-right {m = q} {n = h} p (omega arith))) ] in
-        omega (arith, mul-le-mul-right {m = h + 1} {n = q} p (omega arith), mul-comm p q)
+        omega (arith, mul-le-mul-right {m = h + 1} {n = q} p (omega arith))
 
 -- the shifts make the upper word of h·2^64 + l times an even power of two
 pub scaled-is : (h l z : ℕ) → z < 64 → h * 2 ^ z < 2 ^ 64
@@ -82,17 +83,13 @@ scaled-is h l z w f = rw (word, shift) at (by-factors h l (2 ^ (63 - z)) (2 ^ (z
     evenly : (z : ℕ) → z % 2 + 2 * (z / 2) ≡ z
     evenly z = omega arith
 
-    together : (z : ℕ) → z < 64 → 1 + (63 - z) + z ≡ 64
-    together z w = omega arith
-
     shift : 2 ^ (z % 2) * 2 ^ (2 * (z / 2)) ≡ 2 ^ z
     shift = sym (pow-add 2 (z % 2) (2 * (z / 2))) ∙ ap (λ (k : ℕ). 2 ^ k) (evenly z)
 
     word : 2 * 2 ^ (63 - z) * 2 ^ (z % 2) * 2 ^ (2 * (z / 2)) ≡ 2 ^ 64
-    word =
-        mul-assoc (2 * 2 ^ (63 - z)) (2 ^ (z % 2)) (2 ^ (2 * (z / 2))) ∙ ap (λ (x : ℕ). 2 * 2 ^ (63 - z) * x) shift
-        ∙ ap (λ (x : ℕ). x * 2 ^ z) (sym (pow-add 2 1 (63 - z))) ∙ sym (pow-add 2 (1 + (63 - z)) z) ∙ ap (λ (k : ℕ). 2 ^ k) (together z w)
+    word = mul-assoc (2 * 2 ^ (63 - z)) (2 ^ (z % 2)) (2 ^ (2 * (z / 2))) ∙ ap (λ (x : ℕ). 2 * 2 ^ (63 - z) * x) shift ∙ split z w
 
+    -- with q, t and m for the three powers
     by-factors : (h l q t m : ℕ) → zero < q → zero < m → h * (t * m) < 2 * q * t * m
         → (h * (t * m) % (2 * q * t * m) + l / 2 / q) / t ≡ (h * (2 * q * t * m) + l) * m / (2 * q * t * m)
     by-factors h l q t m a b f =
