@@ -101,9 +101,9 @@ height-angle-of-0 e =
 slope-of-0 : (e p : Pair) → R.product (R.quotient nothing e) p ≡ nothing
 slope-of-0 e p = ap₂ R.product (quotient-of-0 e) refl ∙ product-of-0 p
 
-pub upright-of-0 : (e : Pair) → vertical rounded nothing e ≡ nothing
+pub vertical-of-0 : (e : Pair) → vertical rounded nothing e ≡ nothing
 unfolding vertical
-upright-of-0 e =
+vertical-of-0 e =
     ap₂ R.quotient
     (ap₂ R.difference
     (ap₂ R.sum (height-angle-of-0 e) (ap₂ R.product (slope-of-0 _ _) refl ∙ product-of-0 _) ∙ 0-and nothing)
@@ -116,8 +116,8 @@ above-level : (l e : Pair) → vertical-above rounded l nothing e ≡ vertical r
 unfolding vertical-above
 above-level l e =
     ap₂ R.difference
-    (ap₂ R.sum (upright-of-0 e) (ap (λ (y : Pair). vertical rounded y e) (less-0 l)) ∙ 0-and _)
-    (ap (λ (y : Pair). vertical rounded y e) (0-less l) ∙ upright-of-0 e)
+    (ap₂ R.sum (vertical-of-0 e) (ap (λ (y : Pair). vertical rounded y e) (less-0 l)) ∙ 0-and _)
+    (ap (λ (y : Pair). vertical rounded y e) (0-less l) ∙ vertical-of-0 e)
     ∙ less-0 _
 
 pub factor-level : (face : ℕ) (l e : Pair) → factor-at rounded true face l nothing e ≡ factor rounded face l e
@@ -149,8 +149,8 @@ printed-level E level =
     (record { low = refl; high = refl; note = refl })
 
 -- ---- what the code answers
-pub vertical-of-zero : {e : Figures} → Spaced e → vertical answers (given nothing) e ≡ given nothing
-vertical-of-zero {e} k =
+pub vertical-answer-of-0 : {e : Figures} → Spaced e → vertical answers (given nothing) e ≡ given nothing
+vertical-answer-of-0 {e} k =
     agreed (vertical-kept agreement (itself (given nothing) (λ _. record { ends = le-refl 0 })) (itself e (λ _. record { ends = k .ordered })))
     (one-factor (record { given = refl; inside = record { low = le-refl 0; ordered = le-refl 0; high = omega arith; near = omega arith } }) k .upright .given)
-    ∙ ap given (upright-of-0 (e .pair))
+    ∙ ap given (vertical-of-0 (e .pair))

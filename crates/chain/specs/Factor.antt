@@ -20,8 +20,8 @@ abbrev pub figures : Factor → Figures
 figures (Is p) = given p
 figures (Refused why) = refused (number-of why)
 
--- "21, l outside .." by request 1 "0 to 40"; "22, e outside 0.04 to 400; 23, face", "each one whole number of trillionths
--- taken as an exact pair". "Factor alone now takes l from 0 to 40, and no height."
+-- "21, l outside 0.5 to 13; 22, e outside 0.04 to 400; 23, face", "each one whole number of trillionths taken as an exact pair".
+-- Request 1: "Factor alone now takes l from 0 to 40, and no height."
 unfoldable pub factor-of : ℕ → ℕ → ℕ → Figures
 factor-of l e face =
     refuse (outside 0 40_000_000_000_000 l) (refused 21)

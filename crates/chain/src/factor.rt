@@ -175,7 +175,7 @@ fn horizontal(seen: Seen, rim: Rim, angle: Answer) -> Answer
 
 // Whether an answer is the pair [0, 0].
 fn is_zero(a: Answer) -> bool
-    ensures { λ r. ⌜ (r ≡ true → figures a ≡ given (ends 0 0)) ⌝ }
+    ensures { λ r. ⌜ (r ≡ true → figures a ≡ given (ends 0 0)) × (figures a ≡ given (ends 0 0) → r ≡ true) ⌝ }
 {
     let Answer::Is(p) = a else {
         return false;

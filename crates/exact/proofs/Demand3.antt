@@ -8,7 +8,7 @@ use Rattle.chain.specs.declared.enquiry.Enquiry.{Enquiry}
 use Rattle.chain.specs.Flux.{low-of, high-of}
 use Rattle.chain.proofs.Limits.{Tested, between, accepted-tested}
 use Rattle.chain.proofs.Accepted as chain
-use Rattle.widths.proofs.Printed as widths
+use Rattle.widths.proofs.Printed.{widths, within-20}
 use Rattle.exact.specs.Fraction.{_⊑_, whole, _⊗_}
 use Rattle.exact.specs.Depth.{times}
 use Rattle.exact.specs.Demand.{exact-bracket, Demand-3}
@@ -45,5 +45,5 @@ demand-3 E accepted n deep =
       divisors-above-0 = meets .sound .defined;
       low-below = rw shown (watts-down _ ⟫ ⊗-mono (meets .overlap refl .low) ⊑-refl);
       high-above = rw shown (⊗-mono (meets .overlap refl .high) ⊑-refl ⟫ watts-up _);
-      narrow = rw shown (widths.narrow E accepted .twenty);
+      narrow = omega (arith, widths E accepted .near, within-20 (E .method) (E .face));
     }

@@ -14,14 +14,14 @@ abbrev pub former-end : ℕ → ℕ → ℕ → ℕ
 former-end fuels pools targets = targets-start fuels pools + count-size + 7 * targets
 
 module _ (s : List ℕ) (start size most : ℕ) (rest : Outcome) (few : two s start ≤ most) where
-  passed : start + count-size + size * two s start ≤ length s → section s start size most rest ≡ rest
+  section-inside : start + count-size + size * two s start ≤ length s → section s start size most rest ≡ rest
   unfolding section
-  passed h =
+  section-inside h =
       rw (le-ltb (length s) (start + count-size) (omega arith), le-ltb most (two s start) few, le-ltb (length s) (start + count-size + size * two s start) h)
 
-  cut-short : start + count-size ≤ length s → length s < start + count-size + size * two s start → section s start size most rest ≡ refused 1
+  section-cut-short : start + count-size ≤ length s → length s < start + count-size + size * two s start → section s start size most rest ≡ refused 1
   unfolding section
-  cut-short h k =
+  section-cut-short h k =
       rw (le-ltb (length s) (start + count-size) h, le-ltb most (two s start) few, lt-ltb (length s) (start + count-size + size * two s start) k)
 
 pub former-refused :
@@ -29,6 +29,6 @@ pub former-refused :
     → length s ≡ former-end (fuels-of s) (pools-of s) (targets-of s) → reading-of s ≡ refused 1
 unfolding reading-of from-pools from-targets fuels-of pools-of targets-of
 former-refused s f p t some e =
-    passed s 0 fuel-size most-fuels (from-pools s) f (omega arith)
-    ∙ passed s (pools-start (fuels-of s)) pool-size most-pools (from-targets s) p (omega arith)
-    ∙ cut-short s (targets-start (fuels-of s) (pools-of s)) target-size most-targets (after-sections s) t (omega arith) (omega arith)
+    section-inside s 0 fuel-size most-fuels (from-pools s) f (omega arith)
+    ∙ section-inside s (pools-start (fuels-of s)) pool-size most-pools (from-targets s) p (omega arith)
+    ∙ section-cut-short s (targets-start (fuels-of s) (pools-of s)) target-size most-targets (after-sections s) t (omega arith) (omega arith)

@@ -4,13 +4,13 @@ use mathlib.Core.Path.{_≡_, refl, subst}
 use mathlib.Core.Bool.{Bool, true, false}
 use mathlib.Core.List.{List, [], _∷_}
 use Prim.Native.Nat.{ℕ, _+_, _*_, _≤_, max}
-use native.Mathlib.Nat.{le-refl, le-max-left, le-max-right, max-le}
+use native.Mathlib.Nat.{le-refl, le-max-left, le-max-right}
 use native.Mathlib.Omega.{arith}
 use lib.Dec.{T, eqb}
 use lib.IntN.{pos}
 use lib.Signed.{nonNeg}
 use Rattle.pairs.specs.declared.answer.Pair.{Pair}
-use Rattle.pairs.specs.Rounded.{U, rounded, up, down}
+use Rattle.pairs.specs.Rounded.{rounded, up, down}
 use Rattle.pairs.specs.Figures.{Figures}
 use Rattle.pairs.specs.Answers.{answers}
 use Rattle.pairs.proofs.Agreement.{agreement}
@@ -21,7 +21,7 @@ use Rattle.chain.proofs.Bounds.{Bound, bound, bounds}
 use Rattle.chain.proofs.Inside.{Inside}
 use Rattle.chain.proofs.Within.{Held, within}
 use Rattle.chain.proofs.Steps.{choice-kept, factor-kept, emissive-power-of-kept, relative-height-of-kept, relative-distance-of-kept, radiant-flux-kept}
-use Rattle.chain.proofs.Boxes.{known, passing, Passed, tests-passed, every, each, either}
+use Rattle.chain.proofs.Boxes.{known, every, each, either}
 use Rattle.chain.proofs.Flame.{emissive-bound-1, emissive-bound-2}
 use Rattle.chain.proofs.Limits.{Tested, between}
 use Rattle.chain.proofs.Accepted as chain
@@ -51,48 +51,39 @@ pub level-widths : (level-width-of 1 1 ≡ 190_100_001) × (level-width-of 1 2 �
 unfolding level-width-of flux-bound emissive-bound level-bound by-face B.product B.larger bound up
 level-widths = (refl, refl, refl, refl, refl, refl)
 
--- ---- whatever the method, the face and the height: nothing refuses, and q is narrow
--- 20 W/m² as printed leave q 19 W/m².
-abbrev pub flux-limit : Bound
-flux-limit = record { least = 0; most = 4_100 * U; width = 19_000_000_000; safe = true }
-
+-- ---- whatever the method, the face and the height, q is not refused
 -- Both methods, on each of the faces.
 abbrev face-tests : Bound → List Bool → List Bool
-face-tests F rest = passing flux-limit (B.product emissive-bound-1 F) ∷ passing flux-limit (B.product emissive-bound-2 F) ∷ rest
+face-tests F rest = (B.product emissive-bound-1 F) .safe ∷ (B.product emissive-bound-2 F) .safe ∷ rest
 
 abbrev flux-tests : Bound → Bound → List Bool
 flux-tests upright level = face-tests upright (face-tests level (face-tests (B.larger upright level) []))
 
-by-method : (method : ℕ) (F : Bound) → T (passing flux-limit (B.product emissive-bound-1 F)) → T (passing flux-limit (B.product emissive-bound-2 F)) → Passed flux-limit (flux-bound method F)
+by-method : (method : ℕ) (F : Bound) → T ((B.product emissive-bound-1 F) .safe) → T ((B.product emissive-bound-2 F) .safe) → T ((flux-bound method F) .safe)
 unfolding flux-bound emissive-bound
-by-method method F s t =
-    either (λ b. Passed flux-limit (B.product b F)) (eqb method 1) (tests-passed flux-limit _ s) (tests-passed flux-limit _ t)
+by-method method F s t = either (λ b. T ((B.product b F) .safe)) (eqb method 1) s t
 
-by-method-and-face : (upright level : Bound) → T (every (flux-tests upright level)) → (method face : ℕ) → Passed flux-limit (flux-bound method (by-face bounds face upright level))
+by-method-and-face : (upright level : Bound) → T (every (flux-tests upright level)) → (method face : ℕ) → T ((flux-bound method (by-face bounds face upright level)) .safe)
 unfolding by-face
 by-method-and-face upright level t method face =
     let c = each (flux-tests upright level) t in
     let c₂ = c .1 .1 in
     let c₄ = c₂ .1 .1 in
-    either (λ b. Passed flux-limit (flux-bound method b)) (eqb face 1) (by-method method upright (c .0) (c .1 .0))
-    (either (λ b. Passed flux-limit (flux-bound method b)) (eqb face 2) (by-method method level (c₂ .0) (c₂ .1 .0))
+    either (λ b. T ((flux-bound method b) .safe)) (eqb face 1) (by-method method upright (c .0) (c .1 .0))
+    (either (λ b. T ((flux-bound method b) .safe)) (eqb face 2) (by-method method level (c₂ .0) (c₂ .1 .0))
     (by-method method (B.larger upright level) (c₄ .0) (c₄ .1 .0)))
 
-above-passed : (method face : ℕ) → Passed flux-limit (flux-bound method (above-bound face))
-unfolding above-bound passing B.product B.sum B.difference B.larger bound up down
-above-passed = by-method-and-face _ _ tt
+above-safe : (method face : ℕ) → T ((flux-bound method (above-bound face)) .safe)
+unfolding above-bound B.product B.sum B.difference B.larger bound up down
+above-safe = by-method-and-face _ _ tt
 
-below-passed : (method face : ℕ) → Passed flux-limit (flux-bound method (below-bound face))
-unfolding below-bound passing B.product B.difference B.larger bound up down
-below-passed = by-method-and-face _ _ tt
+below-safe : (method face : ℕ) → T ((flux-bound method (below-bound face)) .safe)
+unfolding below-bound B.product B.difference B.larger bound up down
+below-safe = by-method-and-face _ _ tt
 
-level-passed : (method face : ℕ) → Passed flux-limit (flux-bound method (level-bound face))
-unfolding level-bound passing B.product B.larger bound up down
-level-passed = by-method-and-face _ _ tt
-
-pub width-small : (method face : ℕ) → width-of method face ≤ flux-limit .width
-unfolding width-of
-width-small method face = max-le (above-passed method face .width) (below-passed method face .width)
+level-safe : (method face : ℕ) → T ((flux-bound method (level-bound face)) .safe)
+unfolding level-bound B.product B.larger bound up down
+level-safe = by-method-and-face _ _ tt
 
 -- ---- one enquiry
 -- A width, on rounded pairs.
@@ -122,8 +113,8 @@ module _ (E : Enquiry) (t : Tested E) where
 
   at-height : (from-the-base-up : Bool) → Held (answers .product (emissive-power-of answers E) (factor-at answers from-the-base-up (E .face) (relative-height-of answers E) (relative-elevation-of answers E) (relative-distance-of answers E))) (flux-bound (E .method) (height-bound from-the-base-up (E .face)))
   unfolding flux-bound
-  at-height true = within .product (known power-held) (above-within placement (E .face)) .where-safe (above-passed (E .method) (E .face) .safe)
-  at-height false = within .product (known power-held) (below-within placement (E .face)) .where-safe (below-passed (E .method) (E .face) .safe)
+  at-height true = within .product (known power-held) (above-within placement (E .face)) .where-safe (above-safe (E .method) (E .face))
+  at-height false = within .product (known power-held) (below-within placement (E .face)) .where-safe (below-safe (E .method) (E .face))
 
   within-width : (from-the-base-up : Bool) → (flux-bound (E .method) (height-bound from-the-base-up (E .face))) .width ≤ width-of (E .method) (E .face)
   unfolding width-of
@@ -138,7 +129,7 @@ module _ (E : Enquiry) (t : Tested E) where
 
   level-held : Held (answers .product (emissive-power-of answers E) (factor answers (E .face) (relative-height-of answers E) (relative-distance-of answers E))) (flux-bound (E .method) (level-bound (E .face)))
   unfolding flux-bound
-  level-held = within .product (known power-held) (level-within placement (E .face)) .where-safe (level-passed (E .method) (E .face) .safe)
+  level-held = within .product (known power-held) (level-within placement (E .face)) .where-safe (level-safe (E .method) (E .face))
 
   pub level-near : E .height ≡ pos 0 → (radiant-flux rounded E) .high ≤ (radiant-flux rounded E) .low + level-width-of (E .method) (E .face)
   unfolding level-width-of

@@ -1,43 +1,24 @@
--- How far apart low and high are at most as printed, in W/m², by method and face: at any height 20 at most.
+-- How far apart low and high are at most as printed, in W/m².
 -- From the widths of q, brought outwards to whole W/m². Assumes nothing.
-use mathlib.Core.Path.{_≡_, refl}
-use Prim.Native.Nat.{ℕ, _+_, _*_, _≤_}
+use Prim.Native.Nat.{ℕ, zero, suc, _+_, _*_, _≤_}
 use native.Mathlib.Omega.{arith}
-use lib.IntN.{pos}
+use lib.Dec.{lit≤, eqb}
 use Rattle.pairs.specs.Rounded.{U, up, down}
 use Rattle.chain.specs.declared.enquiry.Enquiry.{Enquiry}
 use Rattle.chain.specs.Chain.{by-face}
-use Rattle.chain.specs.Flux.{low-of, high-of, flux-of}
+use Rattle.chain.specs.Flux.{low-of, high-of}
 use Rattle.chain.proofs.Bounds as B
 use Rattle.chain.proofs.Bounds.{bound}
-use Rattle.chain.proofs.Limits.{accepted-tested}
-use Rattle.chain.proofs.Accepted.{accepted}
+use Rattle.chain.proofs.Boxes.{either}
+use Rattle.chain.proofs.Limits.{between, accepted-tested}
+use Rattle.chain.proofs.Accepted.{accepted, shown}
+use Rattle.widths.specs.Narrow.{at-any-height, at-height-0, Widths}
 use Rattle.widths.proofs.FactorWidths.{level-bound, above-bound, below-bound}
-use Rattle.widths.proofs.FluxWidths.{flux-limit, emissive-bound, flux-bound, width-of, level-width-of, width-small, flux-near, level-near}
+use Rattle.widths.proofs.FluxWidths.{emissive-bound, flux-bound, width-of, level-width-of, flux-near, level-near}
 
 -- Low and high of a q that is so many trillionths of a kW/m² wide.
-unfoldable pub printed : ℕ → ℕ
+unfoldable printed : ℕ → ℕ
 printed width = up (1000 * width) U + 1
-
-unfoldable pub printed-width : ℕ → ℕ → ℕ
-printed-width method face = printed (width-of method face)
-
-unfoldable pub printed-level-width : ℕ → ℕ → ℕ
-printed-level-width method face = printed (level-width-of method face)
-
-pub printed-widths : (printed-width 1 1 ≡ 3) × (printed-width 1 2 ≡ 3) × (printed-width 1 3 ≡ 3) × (printed-width 2 1 ≡ 7) × (printed-width 2 2 ≡ 5) × (printed-width 2 3 ≡ 7)
-unfolding printed-width printed width-of flux-bound emissive-bound above-bound below-bound by-face B.product B.sum B.difference B.larger bound up
-printed-widths = (refl, refl, refl, refl, refl, refl)
-
-pub printed-level-widths : (printed-level-width 1 1 ≡ 2) × (printed-level-width 1 2 ≡ 2) × (printed-level-width 1 3 ≡ 2) × (printed-level-width 2 1 ≡ 2) × (printed-level-width 2 2 ≡ 2) × (printed-level-width 2 3 ≡ 2)
-unfolding printed-level-width printed level-width-of flux-bound emissive-bound level-bound by-face B.product B.larger bound up
-printed-level-widths = (refl, refl, refl, refl, refl, refl)
-
-pub record Narrow (E : Enquiry) : Type 0 where
-  pub ordered : low-of E ≤ high-of E
-  pub near : high-of E ≤ low-of E + printed-width (E .method) (E .face)
-  pub near-level : E .height ≡ pos 0 → high-of E ≤ low-of E + printed-level-width (E .method) (E .face)
-  pub twenty : high-of E ≤ low-of E + 20
 
 in-order : (l h : ℕ) → l ≤ h → down (1000 * l) U ≤ up (1000 * h) U
 unfolding up down
@@ -47,18 +28,48 @@ outwards : (l h w : ℕ) → h ≤ l + w → up (1000 * h) U ≤ down (1000 * l)
 unfolding printed up down
 outwards l h w k = omega arith
 
-below-twenty : (w : ℕ) → w ≤ flux-limit .width → printed w ≤ 20
-unfolding printed up
-below-twenty w h = omega arith
+-- ---- by method and face
+of-three : (P : ℕ → Type 0) → P 1 → P 2 → P 3 → (n : ℕ) → 1 ≤ n → n ≤ 3 → P n
+of-three P a b c zero l h = absurd (omega arith)
+of-three P a b c (suc zero) l h = a
+of-three P a b c (suc (suc zero)) l h = b
+of-three P a b c (suc (suc (suc zero))) l h = c
+of-three P a b c (suc (suc (suc (suc n)))) l h = absurd (omega arith)
 
-pub narrow : (E : Enquiry) → (flux-of E) .state ≡ 0 → Narrow E
-unfolding low-of high-of printed-width printed-level-width
-narrow E e =
+abbrev Any-height : ℕ → ℕ → Type 0
+Any-height method face = printed (width-of method face) ≤ at-any-height method face
+
+any-height : (method face : ℕ) → 1 ≤ method → method ≤ 2 → 1 ≤ face → face ≤ 3 → Any-height method face
+unfolding at-any-height printed width-of flux-bound emissive-bound above-bound below-bound by-face B.product B.sum B.difference B.larger bound up
+any-height method face l h =
+    of-three (λ m. (f : ℕ) → 1 ≤ f → f ≤ 3 → Any-height m f) (of-three (Any-height 1) (lit≤ tt) (lit≤ tt) (lit≤ tt))
+    (of-three (Any-height 2) (lit≤ tt) (lit≤ tt) (lit≤ tt)) (of-three (Any-height 3) (lit≤ tt) (lit≤ tt) (lit≤ tt)) method l (omega arith) face
+
+abbrev Level : ℕ → ℕ → Type 0
+Level method face = printed (level-width-of method face) ≤ at-height-0
+
+level : (method face : ℕ) → 1 ≤ method → method ≤ 2 → 1 ≤ face → face ≤ 3 → Level method face
+unfolding printed level-width-of flux-bound emissive-bound level-bound by-face B.product B.larger bound up
+level method face l h =
+    of-three (λ m. (f : ℕ) → 1 ≤ f → f ≤ 3 → Level m f) (of-three (Level 1) (lit≤ tt) (lit≤ tt) (lit≤ tt))
+    (of-three (Level 2) (lit≤ tt) (lit≤ tt) (lit≤ tt)) (of-three (Level 3) (lit≤ tt) (lit≤ tt) (lit≤ tt)) method l (omega arith) face
+
+pub widths : Widths
+unfolding low-of high-of
+widths E e =
     let t = accepted-tested E e in
-    let near = outwards _ _ (width-of (E .method) (E .face)) (flux-near E t) in
+    let m = between 1 2 (E .method) (t .limited .method) in
+    let f = between 1 3 (E .face) (t .limited .face) in
+    let w = any-height (E .method) (E .face) (m .low) (m .high) (f .low) (f .high) in
+    let v = level (E .method) (E .face) (m .low) (m .high) (f .low) (f .high) in
+    let s = shown E t in
     record {
-      ordered = in-order _ _ (accepted E t .ordered);
-      near = near;
-      near-level = λ level. outwards _ _ (level-width-of (E .method) (E .face)) (level-near E t level);
-      twenty = omega (arith, near, below-twenty (width-of (E .method) (E .face)) (width-small (E .method) (E .face)));
+      ordered = rw s (in-order _ _ (accepted E t .ordered));
+      near = rw s (omega (arith, outwards _ _ (width-of (E .method) (E .face)) (flux-near E t), w));
+      near-level = λ z. rw s (omega (arith, outwards _ _ (level-width-of (E .method) (E .face)) (level-near E t z), v));
     }
+
+-- Demand 3's 20 W/m² cover them all.
+pub within-20 : (method face : ℕ) → at-any-height method face ≤ 20
+unfolding at-any-height
+within-20 method face = either (λ n. n ≤ 20) (eqb method 1) (lit≤ tt) (either (λ n. n ≤ 20) (eqb face 2) (lit≤ tt) (lit≤ tt))

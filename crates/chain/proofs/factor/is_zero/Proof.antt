@@ -2,13 +2,14 @@
 -- Assumes nothing.
 use mathlib.Core.Path.{_≡_, sym, ap, subst, _∙_}
 use mathlib.Core.Bool.{true, false}
-use lib.Dec.{T}
+use lib.Dec.{T, eqb}
 use borrow.Author.Tests.{eqb-true}
 use Rattle.pairs.specs.declared.answer.Pair.{Pair}
 use Rattle.pairs.specs.declared.answer.Answer.{Answer}
 use Rattle.pairs.specs.declared.answer.Answer.the-variants.{Is}
 use Rattle.pairs.specs.Rounded.{ends}
 use Rattle.pairs.specs.Figures.{figures, given}
+use Rattle.chain.proofs.Given.{pair-given, never-refused}
 use borrow.Author.Needs.{needs}
 use Rattle.chain.proofs.factor.is_zero.Statement.{statement}
 use Rattle.chain.proofs.factor.is_zero.Tie as tie
@@ -23,13 +24,16 @@ enum-known-a : tie.Need-enum-known-a
 enum-known-a c = search needs
 
 returns : tie.Need-returns
-returns c = λ e. never e
+returns c = (λ e. never e, λ f. absurd (never-refused (c .before .args .a) _ f (c .match .keys2)))
 
 returns-2 : tie.Need-returns-2
-returns-2 c = λ e. zero-ends _ _ (c .before .before .before .before .a .given .1) (c .before .if1 .taken) (eqb-true _ 0 e)
+returns-2 c = let is = c .before .before .before .before .a .given .1 in (
+  λ e. zero-ends _ _ is (c .before .if1 .taken) (eqb-true _ 0 e),
+  λ f. ap (λ (p : Pair). eqb (p .high) 0) (pair-given _ _ _ f is),
+)
 
 returns-3 : tie.Need-returns-3
-returns-3 c = λ e. never e
+returns-3 c = (λ e. never e, λ f. absurd (c .if1 .left (ap (λ (p : Pair). p .low) (pair-given _ _ _ f (c .before .before .before .a .given .1)))))
 
 pub is-zero-spec : {M : Type 1} → statement M
 is-zero-spec = tie.close (tie.spec enum-known-a returns returns-2 returns-3)

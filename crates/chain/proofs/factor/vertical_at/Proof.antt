@@ -5,7 +5,7 @@ use Rattle.pairs.specs.Answers as A
 use Rattle.chain.specs.Chain as chain
 use Rattle.pairs.specs.Figures.{figures}
 use Rattle.chain.proofs.factor.Faces.{seen-by}
-use Rattle.chain.proofs.Level.{vertical-of-zero}
+use Rattle.chain.proofs.Level.{vertical-answer-of-0}
 use borrow.Author.Needs.{needs}
 use Rattle.chain.proofs.factor.vertical_at.Statement.{statement}
 use Rattle.chain.proofs.factor.vertical_at.Tie as tie
@@ -19,8 +19,8 @@ exact-requires c κs = search needs
 returns : tie.Need-returns
 returns c =
     let s = c .before .before in
-    let zero = ap₂ (chain.vertical A.answers) (s .is-zero .ensures (c .before .if1 .taken)) refl in
-    c .exact .ensures ∙ sym (zero ∙ vertical-of-zero (s .before .pre .1 .1))
+    let zero = ap₂ (chain.vertical A.answers) (s .is-zero .ensures .0 (c .before .if1 .taken)) refl in
+    c .exact .ensures ∙ sym (zero ∙ vertical-answer-of-0 (s .before .pre .1 .1))
 
 seen-at-requires : tie.Need-seen-at-requires
 seen-at-requires c κs = search needs

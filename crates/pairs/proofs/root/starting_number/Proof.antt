@@ -10,8 +10,8 @@ use Rattle.pairs.proofs.root.starting_number.Statement.{statement}
 use Rattle.pairs.proofs.root.starting_number.Tie as tie
 
 -- the parabola's product is below 2^22, so the guess is below 2^14
-curved : (i : ℕ) → i < 1024 → i * (3968 - i) < 2 ^ 22
-curved i h = omega (arith, mul-le-mul {n₁ = i} {m₁ = 3968 - i} {n₂ = 1023} {m₂ = 3968} (omega arith) (omega arith))
+parabola-lt : (i : ℕ) → i < 1024 → i * (3968 - i) < 2 ^ 22
+parabola-lt i h = omega (arith, mul-le-mul {n₁ = i} {m₁ = 3968 - i} {n₂ = 1023} {m₂ = 3968} (omega arith) (omega arith))
 
 -- the sum of a step stays within a word
 sum-fits : (n s : ℕ) → n < 2 ^ 26 → s < 2 ^ 15 → s + n / s < 2 ^ 64
@@ -47,19 +47,19 @@ sub-guess : tie.Need-sub-guess Inv-loop μ-loop
 sub-guess c = search needs
 
 mul-guess : tie.Need-mul-guess Inv-loop μ-loop
-mul-guess c = omega (arith, curved (c .args .i) (c .pre .1))
+mul-guess c = omega (arith, parabola-lt (c .args .i) (c .pre .1))
 
 add-guess : tie.Need-add-guess Inv-loop μ-loop
-add-guess c = omega (arith, curved (c .args .i) (c .pre .1))
+add-guess c = omega (arith, parabola-lt (c .args .i) (c .pre .1))
 
 div-s : tie.Need-div-s Inv-loop μ-loop
 div-s c = omega arith
 
 add-s : tie.Need-add-s Inv-loop μ-loop
-add-s c = let m = curved (c .args .i) (c .pre .1) in record { fits = sum-fits _ _ (omega arith) (omega arith) }
+add-s c = let m = parabola-lt (c .args .i) (c .pre .1) in record { fits = sum-fits _ _ (omega arith) (omega arith) }
 
 loop-holds : tie.Need-loop-holds Inv-loop μ-loop
-loop-holds c = let m = curved (c .args .i) (c .pre .1) in stepped _ _ (omega arith) (omega arith) (first-short _ _ (omega arith) (omega arith) (omega arith))
+loop-holds c = let m = parabola-lt (c .args .i) (c .pre .1) in stepped _ _ (omega arith) (omega arith) (first-short _ _ (omega arith) (omega arith) (omega arith))
 
 mul-loop : tie.Need-mul-loop Inv-loop μ-loop
 mul-loop c = let k = c .loop .inv .short in omega (arith, mul-le-mul {n₁ = c .loop .s} {m₁ = c .loop .s} {n₂ = 2 ^ 15} {m₂ = 2 ^ 15} (omega arith) (omega arith))

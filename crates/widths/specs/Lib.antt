@@ -1,0 +1,2 @@
+-- How far apart low and high are at most.
+pub mod Narrow
