@@ -59,16 +59,16 @@ fn radiant_flux(e: Enquiry, diameter: Answer, heat: Answer, height: Answer) -> A
 {
     let method = e.method;
     let face = e.face;
-    let rim = e.distance as u64;
-    let stands = e.height;
-    let from_base = magnitude(stands) as u64;
+    let rim_distance = e.distance as u64;
+    let above_base = e.height;
+    let from_base = magnitude(above_base) as u64;
     let radius = over_of(diameter, 2);
     let l = quotient_of(height, radius);
     let elevation = quotient_of(exact(from_base * 1_000_000_000), radius);
-    let distance = quotient_of(exact(rim * 1_000_000_000), radius);
+    let distance = quotient_of(exact(rim_distance * 1_000_000_000), radius);
     product_of(
         emissive_power(method, diameter, heat, height),
-        factor_at(from_base_up(stands), face, l, elevation, distance),
+        factor_at(from_base_up(above_base), face, l, elevation, distance),
     )
 }
 

@@ -51,8 +51,8 @@ module _ (E : Enquiry) (w : Limited E) {k : ℕ} {q x R : Figures} where
   unfolding chain.relative-elevation-of
   elevation-is e = in-radii _ _ e (let h = height (E .height) (w .height) in omega arith)
 
-cast-rim : tie.Need-cast-rim
-cast-rim c = search needs
+cast-rim-distance : tie.Need-cast-rim-distance
+cast-rim-distance c = search needs
 
 magnitude-requires : tie.Need-magnitude-requires
 magnitude-requires c κs = search needs
@@ -128,7 +128,7 @@ pub radiant-flux-spec : {M : Type 1} → statement M
 radiant-flux-spec =
     tie.close
     (tie.spec
-    cast-rim
+    cast-rim-distance
     magnitude-requires
     cast-from-base
     over-of-requires
