@@ -45,6 +45,7 @@ fn sheet(x: &mut u64, pools: u64, first_method: u64, off_the_floor: bool) -> Vec
         put(&mut s, 1, between(x, 1, 3));
         let height = if off_the_floor { between(x, 0, 25_000) as i64 - 5_000 } else { 0 };
         put(&mut s, 4, height as u64);
+        put(&mut s, 2, between(x, 1, 1_000));
     }
     s
 }

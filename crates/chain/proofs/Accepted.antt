@@ -1,11 +1,11 @@
 -- No operation refuses before the flame test inside the limits of 11 and 12, and none at all in an accepted enquiry, at any
--- height; the pair it gives is ordered and fits. From the sweeps, by the agreement of answers and rounded pairs. Assumes nothing.
+-- height and through any haze; the pair it gives is ordered and fits. From the sweeps, by the agreement of answers and rounded pairs. Assumes nothing.
 use mathlib.Core.Path.{_≡_, subst, ap}
 use mathlib.Core.Bool.{true, false, not}
 use Prim.Native.Nat.{ℕ, suc, _*_, _≤_}
-use native.Mathlib.Nat.{lt-of-not-le, le-of-suc-le-suc}
+use native.Mathlib.Nat.{lt-of-not-le, le-of-suc-le-suc, le-trans, mul-le-mul-left}
 use native.Mathlib.Omega.{arith}
-use lib.Dec.{T, ltb, eqb, le→leb}
+use lib.Dec.{T, ltb, eqb, le→leb, lit<}
 use lib.IntN.{natAbs}
 use lib.Signed.{nonNeg}
 use Rattle.pairs.specs.Rounded.{U, rounded, up, down}
@@ -13,18 +13,19 @@ use Rattle.pairs.specs.Figures.{Figures, given}
 use Rattle.pairs.specs.Answers.{answers}
 use Rattle.pairs.proofs.Agreement.{agreed, agreement}
 use Rattle.chain.specs.declared.enquiry.Enquiry.{Enquiry}
-use Rattle.chain.specs.Chain.{diameter-of, unabsorbed-of, heat-release-of, flame-height-of, emissive-power-1, emissive-power-2, emissive-power-of, emissive-power, relative-height-of, relative-elevation-of, relative-distance-of, configuration-factor-of, radiant-flux}
+use Rattle.chain.specs.Chain.{diameter-of, unabsorbed-of, heat-release-of, flame-height-of, emissive-power-1, emissive-power-2, emissive-power-of, emissive-power, relative-height-of, relative-elevation-of, relative-distance-of, configuration-factor-of, transmitted, clear-flux, radiant-flux}
 use Rattle.chain.specs.Flux.{outside, fuel-within, flame-too-low, stage-too-large, low-of, high-of, note-of, flux-of, Shown}
 use Rattle.chain.specs.Private.{Limited, Spaced}
 use Rattle.chain.proofs.Bounds as B
 use Rattle.chain.proofs.Bounds.{Bound, bound}
 use Rattle.chain.proofs.Inside.{Inside}
 use Rattle.chain.proofs.Within.{Held, within}
-use Rattle.chain.proofs.Steps.{diameter-of-kept, unabsorbed-of-kept, heat-release-of-kept, flame-height-of-kept, radiant-flux-kept}
-use Rattle.chain.proofs.Boxes.{known, passing, passed, either}
+use Rattle.chain.proofs.Steps.{diameter-of-kept, unabsorbed-of-kept, heat-release-of-kept, flame-height-of-kept, clear-flux-kept, radiant-flux-kept}
+use Rattle.chain.proofs.Boxes.{known, passing, passed, part-held, either}
 use Rattle.chain.proofs.Configuration.{relative-height-bound, elevation-bound, relative-distance-bound, spaced, factor-at-held}
 use Rattle.chain.proofs.Flame.{emissive-bound-1, emissive-bound-2, Area}
 use Rattle.chain.proofs.Areas.{areas}
+use Rattle.chain.proofs.Haze.{transmitted-ordered, transmitted-high}
 use Rattle.chain.proofs.Limits.{Tested, between, fuel, height, past-tests, tested-shown}
 
 -- ---- inside the limits of 11 and 12
@@ -47,7 +48,7 @@ within-limits-not-refused E f a =
       flame-height-given = agreed (flame-height-of-kept agreement E) (s .flame .not-refused);
     }
 
--- ---- where no number from 11 to 16 applies, nor 18
+-- ---- where no number from 11 to 16 applies, nor 18 or 19
 not-less : (m n : ℕ) → ltb m n ≡ false → n ≤ m
 not-less m n e = le-of-suc-le-suc (lt-of-not-le (λ h. subst T e (le→leb (suc m) n h)))
 
@@ -86,7 +87,7 @@ bounded E t =
       power-2 = f .power;
     }
 
--- q in trillionths of a kW/m², whatever the method, the face and the height.
+-- E·F in trillionths of a kW/m², whatever the method, the face and the height.
 abbrev flux-bound : Bound
 flux-bound = record { least = 0; most = 6_300 * U; width = 2_000 * U; safe = true }
 
@@ -94,13 +95,20 @@ power-held : (E : Enquiry) → Bounded E → Held (emissive-power-of answers E) 
 unfolding emissive-power-of emissive-power passing
 power-held E s = either (λ f. Held f emissive-bound-2) (eqb (E .method) 1) (passed emissive-bound-2 tt (known (s .power-1))) (s .power-2)
 
-flux-held : (E : Enquiry) → Tested E → Held (radiant-flux answers E) flux-bound
-unfolding radiant-flux configuration-factor-of passing B.product bound up down
-flux-held E t =
+clear-held : (E : Enquiry) → Tested E → Held (clear-flux answers E) flux-bound
+unfolding clear-flux configuration-factor-of passing B.product bound up down
+clear-held E t =
     let s = bounded E t in
     passed flux-bound tt
     (within .product (known (power-held E s))
     (known (factor-at-held (s .height) (s .elevation) (spaced (s .distance)) (nonNeg (E .height)) (E .face))))
+
+-- 1,000 times it is below 2^64, so the air refuses nothing either.
+flux-not-refused : (E : Enquiry) → Tested E → (radiant-flux answers E) .number ≡ 0
+unfolding radiant-flux transmitted
+flux-not-refused E t =
+    let haze = between 1 1_000 (E .transmissivity) (t .limited .transmissivity) in
+    part-held (E .transmissivity) 1000 tt (lit< tt) (omega (arith, mul-le-mul-left (flux-bound .most) (haze .high))) (clear-held E t) .given
 
 pub record Accepted (E : Enquiry) : Type 0 where
   -- No operation of the chain is refused: not by 62, 63 or 64.
@@ -109,11 +117,17 @@ pub record Accepted (E : Enquiry) : Type 0 where
   pub high : (radiant-flux rounded E) .high ≤ 6_300 * U
 
 pub accepted : (E : Enquiry) → Tested E → Accepted E
+unfolding radiant-flux
 accepted E t =
-    let h = flux-held E t in
-    let same = agreed (radiant-flux-kept agreement E) (h .given) in
-    let i = subst (λ (f : Figures). Inside (f .pair) flux-bound) same (h .inside) in
-    record { flux-given = same; ordered = i .ordered; high = i .high }
+    let h = clear-held E t in
+    let i = subst (λ (f : Figures). Inside (f .pair) flux-bound) (agreed (clear-flux-kept agreement E) (h .given)) (h .inside) in
+    let q = clear-flux rounded E in
+    let most = between 1 1_000 (E .transmissivity) (t .limited .transmissivity) .high in
+    record {
+      flux-given = agreed (radiant-flux-kept agreement E) (flux-not-refused E t);
+      ordered = transmitted-ordered q most (i .ordered);
+      high = le-trans (transmitted-high q most) (i .high);
+    }
 
 -- ---- as printed
 no-stage-too-large : (E : Enquiry) → Tested E → stage-too-large E ≡ false

@@ -3,19 +3,21 @@
 use mathlib.Core.Path.{_≡_, ap, subst, sym}
 use mathlib.Core.Bool.{Bool, true, false, _&&_}
 use mathlib.Core.List.{List, [], _∷_}
-use Prim.Native.Nat.{ℕ, suc, _+_, _^_, _≤_, _<_}
+use Prim.Native.Nat.{ℕ, zero, suc, _+_, _*_, _^_, _≤_, _<_}
 use native.Mathlib.Nat.{le-trans, lt-of-le-of-lt}
 use native.Mathlib.Omega.{arith}
-use lib.Dec.{T, leb, leb→le}
-use lib.Ieee.Fits.{and-l, and-r}
+use lib.Dec.{T, leb, ltb, leb→le, lt→ltb}
+use lib.Ieee.Fits.{and-i, and-l, and-r}
 use Rattle.pairs.specs.Rounded as R
 use Rattle.pairs.specs.Figures.{Figures, given}
 use Rattle.pairs.specs.Answers as A
-use Rattle.pairs.specs.Answers.{fitting}
+use Rattle.pairs.specs.Answers.{answers, fitting}
 use Rattle.pairs.proofs.Agreement.{fitting-given}
-use Rattle.chain.proofs.Bounds.{Bound}
+use Rattle.pairs.proofs.Rounding.{up-le}
+use Rattle.chain.proofs.Bounds as B
+use Rattle.chain.proofs.Bounds.{Bound, bound}
 use Rattle.chain.proofs.Inside.{Inside}
-use Rattle.chain.proofs.Within.{Held, Within}
+use Rattle.chain.proofs.Within.{Held, Within, within}
 
 -- Pairs whose low end is from a to b, at most w wide.
 abbrev pub box : ℕ → ℕ → ℕ → Bound
@@ -83,6 +85,20 @@ unfolding A.constant
 constant-held n d b small h =
     let fits : fitting (R.constant n d) ≡ given (R.constant n d) = fitting-given _ (lt-of-le-of-lt (h .high) small) in
     record { given = ap (λ (f : Figures). f .number) fits; inside = subst (λ (f : Figures). Inside (f .pair) b) (sym fits) h }
+
+-- An answer so many times over n, where so many times its bound fits.
+part-safe : (b : Bound) (k n : ℕ) → T (b .safe) → zero < n → b .most * k < 2 ^ 64 → T ((B.over (B.times b k) n) .safe)
+unfolding B.over B.times bound
+part-safe b k n t above fits =
+    let m = b .most * k in
+    and-i (ltb (R.up m n) (2 ^ 64)) (ltb 0 n && (ltb m (2 ^ 64) && b .safe))
+    (lt→ltb (R.up m n) (2 ^ 64) (lt-of-le-of-lt (up-le m n above) fits))
+    (and-i (ltb 0 n) (ltb m (2 ^ 64) && b .safe) (lt→ltb 0 n above) (and-i (ltb m (2 ^ 64)) (b .safe) (lt→ltb m (2 ^ 64) fits) t))
+
+pub part-held :
+    {f : Figures} {b : Bound} (k n : ℕ) → T (b .safe) → zero < n → b .most * k < 2 ^ 64 → Held f b
+    → Held (answers .over (answers .times f k) n) (B.over (B.times b k) n)
+part-held {b = b} k n t above fits h = within .over (within .times (known h) k) n .where-safe (part-safe b k n t above fits)
 
 -- Many tests at once.
 abbrev pub every : List Bool → Bool

@@ -1,5 +1,5 @@
--- An accepted enquiry for each method, face and height: the pool of ISO 24678-7, A.8, so that nothing is said of no enquiry at all.
--- Its flame height and diameter are bounded by computation, without a search for a root. Assumes nothing.
+-- An accepted enquiry for each method, face, height and transmissivity: the pool of ISO 24678-7, A.8, so that nothing is said of no
+-- enquiry at all. Its flame height and diameter are bounded by computation, without a search for a root. Assumes nothing.
 use mathlib.Core.Path.{_≡_, refl, ap}
 use mathlib.Core.Bool.{Bool, true, false, _&&_, not}
 use Prim.Native.Nat.{ℕ, _*_, _≤_}
@@ -19,17 +19,19 @@ use Rattle.chain.proofs.Opened.{opened}
 use Rattle.chain.proofs.Limits.{Tested}
 use Rattle.chain.proofs.Accepted.{within-limits-not-refused, shown}
 
-abbrev pub example : ℕ → ℕ → ℤ → Enquiry
-example method face height =
-    record { rate = 39; absorption = 350; heat = 432; area = 7_854; method = method; distance = 15_000; face = face; height = height }
-
-safe : (method face : ℕ) (height : ℤ) → T ((diameter-of bounds (example method face height)) .safe && (flame-height-of bounds (example method face height)) .safe && leb ((diameter-of bounds (example method face height)) .most) (4 * (flame-height-of bounds (example method face height)) .least))
-unfolding opened
-safe method face height = tt
-
-fuel-fits : (method face : ℕ) (height : ℤ) → not (fuel-within (example method face height)) ≡ false
-unfolding fuel-within
-fuel-fits method face height = refl
+abbrev pub example : ℕ → ℕ → ℤ → ℕ → Enquiry
+example method face height transmissivity =
+    record {
+      rate = 39;
+      absorption = 350;
+      heat = 432;
+      area = 7_854;
+      method = method;
+      distance = 15_000;
+      face = face;
+      height = height;
+      transmissivity = transmissivity;
+    }
 
 less-fails : (m n : ℕ) → n ≤ m → ltb m n ≡ false
 less-fails m n h = by-test (ltb m n) (λ t. not-le-of-lt (ltb→lt m n t) h)
@@ -38,40 +40,57 @@ less-fails m n h = by-test (ltb m n) (λ t. not-le-of-lt (ltb→lt m n t) h)
     by-test true k = absurd (k tt)
     by-test false k = refl
 
-flame-fits : (method face : ℕ) (height : ℤ) → flame-too-low (example method face height) ≡ false
-unfolding flame-too-low
-flame-fits method face height =
-    let E = example method face height in
-    let D = diameter-of bounds E in
-    let L = flame-height-of bounds E in
-    let t = safe method face height in
-    let d = diameter-of-kept within E .where-safe (and-l (D .safe) (L .safe) (and-l (D .safe && L .safe) (leb (D .most) (4 * L .least)) t)) in
-    let l = flame-height-of-kept within E .where-safe (and-r (D .safe) (L .safe) (and-l (D .safe && L .safe) (leb (D .most) (4 * L .least)) t)) in
-    let tall = leb→le (D .most) (4 * L .least) (and-r (D .safe && L .safe) (leb (D .most) (4 * L .least)) t) in
-    let same = within-limits-not-refused E (fuel-fits method face height) refl in
-    let high : (diameter-of answers E) .pair .high ≤ 4 * (flame-height-of answers E) .pair .low = le-trans (d .inside .high) (le-trans tall (mul-le-mul-left 4 (l .inside .low))) in
-    less-fails (4 * (flame-height-of rounded E) .low) ((diameter-of rounded E) .high) (rw (same .diameter-given, same .flame-height-given) at high)
+module _ (method face : ℕ) (height : ℤ) (transmissivity : ℕ) where
+  abbrev E : Enquiry
+  E = example method face height transmissivity
 
-pub example-tested : (method face : ℕ) (height : ℤ) → outside 1 2 method ≡ false → outside 1 3 face ≡ false → height-outside height ≡ false → Tested (example method face height)
-example-tested method face height m f h =
-    record {
-      limited = record { fuel = fuel-fits method face height; area = refl; method = m; distance = refl; face = f; height = h };
-      flame = flame-fits method face height;
-    }
+  safe : T ((diameter-of bounds E) .safe && (flame-height-of bounds E) .safe && leb ((diameter-of bounds E) .most) (4 * (flame-height-of bounds E) .least))
+  unfolding opened
+  safe = tt
 
--- For each method, each face and each height an enquiry is accepted.
-pub each-accepted : (method face : ℕ) (height : ℤ) → outside 1 2 method ≡ false → outside 1 3 face ≡ false → height-outside height ≡ false → (flux-of (example method face height)) .state ≡ 0
-each-accepted method face height m f h = ap (λ (s : Shown). s .state) (shown (example method face height) (example-tested method face height m f h))
+  fuel-fits : not (fuel-within E) ≡ false
+  unfolding fuel-within
+  fuel-fits = refl
 
--- So from the base up, at the base and below it.
-pub above-accepted : (method face : ℕ) → outside 1 2 method ≡ false → outside 1 3 face ≡ false → (flux-of (example method face (pos 2_000))) .state ≡ 0
-unfolding height-outside
-above-accepted method face m f = each-accepted method face (pos 2_000) m f refl
+  flame-fits : flame-too-low E ≡ false
+  unfolding flame-too-low
+  flame-fits =
+      let D = diameter-of bounds E in
+      let L = flame-height-of bounds E in
+      let t = safe in
+      let d = diameter-of-kept within E .where-safe (and-l (D .safe) (L .safe) (and-l (D .safe && L .safe) (leb (D .most) (4 * L .least)) t)) in
+      let l = flame-height-of-kept within E .where-safe (and-r (D .safe) (L .safe) (and-l (D .safe && L .safe) (leb (D .most) (4 * L .least)) t)) in
+      let tall = leb→le (D .most) (4 * L .least) (and-r (D .safe && L .safe) (leb (D .most) (4 * L .least)) t) in
+      let same = within-limits-not-refused E fuel-fits refl in
+      let high : (diameter-of answers E) .pair .high ≤ 4 * (flame-height-of answers E) .pair .low = le-trans (d .inside .high) (le-trans tall (mul-le-mul-left 4 (l .inside .low))) in
+      less-fails (4 * (flame-height-of rounded E) .low) ((diameter-of rounded E) .high) (rw (same .diameter-given, same .flame-height-given) at high)
 
-pub level-accepted : (method face : ℕ) → outside 1 2 method ≡ false → outside 1 3 face ≡ false → (flux-of (example method face (pos 0))) .state ≡ 0
-unfolding height-outside
-level-accepted method face m f = each-accepted method face (pos 0) m f refl
+  module _ (m : outside 1 2 method ≡ false) (f : outside 1 3 face ≡ false) (h : height-outside height ≡ false) (t : outside 1 1_000 transmissivity ≡ false) where
+    example-tested : Tested E
+    example-tested =
+        record {
+          limited = record { fuel = fuel-fits; area = refl; method = m; distance = refl; face = f; height = h; transmissivity = t };
+          flame = flame-fits;
+        }
 
-pub below-accepted : (method face : ℕ) → outside 1 2 method ≡ false → outside 1 3 face ≡ false → (flux-of (example method face (negsuc 1_999))) .state ≡ 0
-unfolding height-outside
-below-accepted method face m f = each-accepted method face (negsuc 1_999) m f refl
+    -- For each method, face, height and transmissivity an enquiry is accepted.
+    pub each-accepted : (flux-of E) .state ≡ 0
+    each-accepted = ap (λ (s : Shown). s .state) (shown E example-tested)
+
+-- So from the base up, at the base and below it, in clear air and in the thickest haze.
+module _ (method face : ℕ) (m : outside 1 2 method ≡ false) (f : outside 1 3 face ≡ false) where
+  pub above-accepted : (flux-of (example method face (pos 2_000) 1_000)) .state ≡ 0
+  unfolding height-outside
+  above-accepted = each-accepted method face (pos 2_000) 1_000 m f refl refl
+
+  pub level-accepted : (flux-of (example method face (pos 0) 1_000)) .state ≡ 0
+  unfolding height-outside
+  level-accepted = each-accepted method face (pos 0) 1_000 m f refl refl
+
+  pub below-accepted : (flux-of (example method face (negsuc 1_999) 1_000)) .state ≡ 0
+  unfolding height-outside
+  below-accepted = each-accepted method face (negsuc 1_999) 1_000 m f refl refl
+
+  pub hazy-accepted : (flux-of (example method face (pos 0) 1)) .state ≡ 0
+  unfolding height-outside
+  hazy-accepted = each-accepted method face (pos 0) 1 m f refl refl

@@ -20,7 +20,7 @@ use Rattle.chain.proofs.Bounds as B
 use Rattle.chain.proofs.Bounds.{Bound, bound, bounds, root-below}
 use Rattle.chain.proofs.Within.{Held, Within, within}
 use Rattle.chain.proofs.Steps.{diameter-kept, heat-release-kept, flame-height-kept, emissive-power-1-kept, emissive-power-2-kept, in-radii-kept}
-use Rattle.chain.proofs.Boxes.{box, in-box, known, below-last, passing, tests-passed, passed, constant-held, every, each}
+use Rattle.chain.proofs.Boxes.{box, in-box, known, below-last, passing, tests-passed, passed, constant-held, part-held, every, each}
 use Rattle.chain.proofs.Sweep.{sweep, swept, chosen}
 use Rattle.chain.proofs.Exponential.{spread, exp-bound, shallowest, deepest, burnt, Depth, unabsorbed}
 use Rattle.chain.proofs.Heat.{heat-width, heat-near}
@@ -140,23 +140,13 @@ spread-covers : (w t y : ℕ) → w * 2_000_000_000 ≤ t → down t 100 ≤ y �
 unfolding up down
 spread-covers w t y h k = omega arith
 
-depth-safe : (D : Bound) (k : ℕ) → T (D .safe) → D .most ≤ 50 * U → k ≤ 500 → T ((B.over (B.times D k) 100) .safe)
-unfolding B.over B.times bound up
-depth-safe D k t h l =
-    let small : D .most * k ≤ 50 * U * 500 = mul-le-mul h l in
-    let fits : D .most * k < 2 ^ 64 = omega arith in
-    let over-fits : up (D .most * k) 100 < 2 ^ 64 = omega arith in
-    and-i (ltb (up (D .most * k) 100) (2 ^ 64)) (ltb (D .most * k) (2 ^ 64) && D .safe) (lt→ltb (up (D .most * k) 100) (2 ^ 64) over-fits)
-    (and-i (ltb (D .most * k) (2 ^ 64)) (D .safe) (lt→ltb (D .most * k) (2 ^ 64) fits) t)
-
 hundred : zero < 100
 hundred = lit< tt
 
 module _ (E : Enquiry) (F : Fuel E) (D : Bound) (hD : Held (diameter-of answers E) D) (safe : T (D .safe)) (below-50 : D .most ≤ 50 * U) where
   depth-held : Held (optical-depth answers (E .absorption) (diameter-of answers E)) (B.over (B.times D (E .absorption)) 100)
   unfolding optical-depth
-  depth-held =
-      within .over (within .times (known hD) (E .absorption)) 100 .where-safe (depth-safe D (E .absorption) safe below-50 (F .most-absorption))
+  depth-held = part-held (E .absorption) 100 safe hundred (omega (arith, mul-le-mul below-50 (F .most-absorption))) hD
 
   -- X, and that 1-X is at least what the least optical depth burns.
   pub unabsorbed-held : shallowest ≤ depth-from D → up (D .most * 500) 100 < deepest → D .width * 2_000_000_000 ≤ D .least → Held (unabsorbed-of answers E) exp-bound × ((unabsorbed-of answers E) .pair .high + burnt (depth-from D) ≤ U)

@@ -1,6 +1,6 @@
 -- A target level with the base: the vertical factor of y = [0, 0] is [0, 0], so at height 0 the chain is that of l and e alone.
 -- By the operations on [0, 0], one after another. Assumes nothing.
-use mathlib.Core.Path.{_≡_, refl, ap, ap₂, subst, _∙_}
+use mathlib.Core.Path.{_≡_, refl, ap, ap₂, _∙_}
 use mathlib.Core.Bool.{true}
 use Prim.Native.Nat.{ℕ, zero, suc, _*_, _+_}
 use native.Mathlib.Nat.{div-eq-of-lt, zero-div, zero-sub, sub-zero, zero-add, le-refl}
@@ -15,11 +15,12 @@ use Rattle.pairs.specs.Answers.{answers}
 use Rattle.pairs.specs.Series.{plus-terms, minus-terms, alternating, power, arc-term, arc, half-angle, atan}
 use Rattle.pairs.proofs.Agreement.{itself, agreed, agreement}
 use Rattle.chain.specs.declared.enquiry.Enquiry.{Enquiry}
-use Rattle.chain.specs.Chain.{in-radii, height-angle, vertical, horizontal, by-face, factor, vertical-above, horizontal-above, factor-at, emissive-power-of, relative-height-of, relative-elevation-of, relative-distance-of, configuration-factor-of, radiant-flux}
+use Rattle.chain.specs.Chain.{in-radii, height-angle, vertical, horizontal, by-face, factor, vertical-above, horizontal-above, factor-at, emissive-power-of, relative-height-of, relative-elevation-of, relative-distance-of, configuration-factor-of, transmitted, clear-flux, radiant-flux}
 use Rattle.chain.specs.Flux.{low-of, high-of, note-of}
 use Rattle.chain.specs.Private.{Spaced, Prints}
 use Rattle.chain.proofs.Steps.{vertical-kept}
 use Rattle.chain.proofs.Configuration.{one-factor}
+use Rattle.chain.proofs.Haze.{flux-clear, printed-from}
 
 abbrev pub nothing : Pair
 nothing = ends 0 0
@@ -126,13 +127,13 @@ factor-level face l e =
     ap₂ (by-face rounded face) (above-level l e) (ap (λ (y : Pair). horizontal rounded y e) (less-0 l))
 
 -- ---- the chain
--- q as it was before there were heights: E times step 7's factor of l and e.
+-- E·F as it was before there were heights: with step 7's factor of l and e.
 abbrev pub level-flux : Enquiry → Pair
 level-flux E = R.product (emissive-power-of rounded E) (factor rounded (E .face) (relative-height-of rounded E) (relative-distance-of rounded E))
 
-pub flux-level : (E : Enquiry) → E .height ≡ pos 0 → radiant-flux rounded E ≡ level-flux E
-unfolding radiant-flux configuration-factor-of relative-elevation-of in-radii R.constant
-flux-level E level =
+pub clear-level : (E : Enquiry) → E .height ≡ pos 0 → clear-flux rounded E ≡ level-flux E
+unfolding clear-flux configuration-factor-of relative-elevation-of in-radii R.constant
+clear-level E level =
     ap₂ R.product refl
     (λ i. factor-at rounded (nonNeg (level i)) (E .face) (relative-height-of rounded E) (elevation-0 i) (relative-distance-of rounded E))
     ∙ ap₂ R.product refl (factor-level (E .face) (relative-height-of rounded E) (relative-distance-of rounded E))
@@ -142,11 +143,16 @@ flux-level E level =
 
 -- Request 1: "Height 0 must print what it printed before."
 pub printed-level :
-    (E : Enquiry) → E .height ≡ pos 0 → Prints (level-flux E) (E .method) (record { low = low-of E; high = high-of E; note = note-of E })
-unfolding low-of high-of note-of
-printed-level E level =
-    subst (λ q. Prints q (E .method) (record { low = low-of E; high = high-of E; note = note-of E })) (flux-level E level)
-    (record { low = refl; high = refl; note = refl })
+    (E : Enquiry) → E .height ≡ pos 0
+    → Prints (transmitted rounded (E .transmissivity) (level-flux E)) (E .method) (record { low = low-of E; high = high-of E; note = note-of E })
+unfolding radiant-flux
+printed-level E level = printed-from E _ (ap (transmitted rounded (E .transmissivity)) (clear-level E level))
+
+-- With request 3: at height 0 and 1,000 what was printed before either.
+pub printed-level-clear :
+    (E : Enquiry) → E .height ≡ pos 0 → E .transmissivity ≡ 1000
+    → Prints (level-flux E) (E .method) (record { low = low-of E; high = high-of E; note = note-of E })
+printed-level-clear E level clear = printed-from E (level-flux E) (flux-clear E clear ∙ clear-level E level)
 
 -- ---- what the code answers
 pub vertical-answer-of-0 : {e : Figures} → Spaced e → vertical answers (given nothing) e ≡ given nothing

@@ -13,6 +13,7 @@ pub mod Heat
 pub mod Radii
 pub mod Flame
 pub mod Areas
+pub mod Haze
 pub mod Limits
 pub mod Accepted
 pub mod Level

@@ -13,7 +13,7 @@ use Rattle.chain.specs.Flux.{Shown, refused, outside, fuel-within, heigh
 use Rattle.chain.specs.Private.{Limited}
 use Rattle.chain.proofs.Flame.{Fuel}
 
--- No number from 11 to 16 applies, nor 18.
+-- No number from 11 to 16 applies, nor 18 or 19.
 pub record Tested (E : Enquiry) : Type 0 where
   pub limited : Limited E
   pub flame : flame-too-low E ≡ false
@@ -60,13 +60,14 @@ follows : (b : Bool) (n k : ℕ) (s : Shown) → (n ≡ k → ⊥) → (refuse b
 follows true n k s other e = absurd (other e)
 follows false n k s other e = (refl, e)
 
--- A state that is none of 11 to 16 and 18 comes after all their tests.
-pub past-tests : (E : Enquiry) (k : ℕ) → ((n : ℕ) → 11 ≤ n → n ≤ 18 → (n ≡ 17 → ⊥) → n ≡ k → ⊥) → (flux-of E) .state ≡ k → Tested E
+-- A state that is none of 11 to 16, 18 and 19 comes after all their tests.
+pub past-tests : (E : Enquiry) (k : ℕ) → ((n : ℕ) → 11 ≤ n → n ≤ 19 → (n ≡ 17 → ⊥) → n ≡ k → ⊥) → (flux-of E) .state ≡ k → Tested E
 unfolding flux-of
 past-tests E k other e =
     let s17 = refuse (stage-too-large E) (refused 17) (record { state = 0; low = low-of E; high = high-of E; note = note-of E }) in
     let s16 = refuse (flame-too-low E) (refused 16) s17 in
-    let s18 = refuse (height-outside (E .height)) (refused 18) s16 in
+    let s19 = refuse (outside 1 1_000 (E .transmissivity)) (refused 19) s16 in
+    let s18 = refuse (height-outside (E .height)) (refused 18) s19 in
     let s15 = refuse (outside 1 3 (E .face)) (refused 15) s18 in
     let s14 = refuse (outside 1_000 200_000 (E .distance)) (refused 14) s15 in
     let s13 = refuse (outside 1 2 (E .method)) (refused 13) s14 in
@@ -76,17 +77,18 @@ past-tests E k other e =
     let t13 = follows (outside 1 2 (E .method)) 13 k s14 (other 13 (lit≤ tt) (lit≤ tt) (λ z. omega (arith, z))) (t12 .1) in
     let t14 = follows (outside 1_000 200_000 (E .distance)) 14 k s15 (other 14 (lit≤ tt) (lit≤ tt) (λ z. omega (arith, z))) (t13 .1) in
     let t15 = follows (outside 1 3 (E .face)) 15 k s18 (other 15 (lit≤ tt) (lit≤ tt) (λ z. omega (arith, z))) (t14 .1) in
-    let t18 = follows (height-outside (E .height)) 18 k s16 (other 18 (lit≤ tt) (lit≤ tt) (λ z. omega (arith, z))) (t15 .1) in
-    let t16 = follows (flame-too-low E) 16 k s17 (other 16 (lit≤ tt) (lit≤ tt) (λ z. omega (arith, z))) (t18 .1) in
+    let t18 = follows (height-outside (E .height)) 18 k s19 (other 18 (lit≤ tt) (lit≤ tt) (λ z. omega (arith, z))) (t15 .1) in
+    let t19 = follows (outside 1 1_000 (E .transmissivity)) 19 k s16 (other 19 (lit≤ tt) (lit≤ tt) (λ z. omega (arith, z))) (t18 .1) in
+    let t16 = follows (flame-too-low E) 16 k s17 (other 16 (lit≤ tt) (lit≤ tt) (λ z. omega (arith, z))) (t19 .1) in
     record {
-      limited = record { fuel = t11 .0; area = t12 .0; method = t13 .0; distance = t14 .0; face = t15 .0; height = t18 .0 };
+      limited = record { fuel = t11 .0; area = t12 .0; method = t13 .0; distance = t14 .0; face = t15 .0; height = t18 .0; transmissivity = t19 .0 };
       flame = t16 .0;
     }
 
 pub accepted-tested : (E : Enquiry) → (flux-of E) .state ≡ 0 → Tested E
 accepted-tested E = past-tests E 0 (λ n l u h e. omega arith)
 
--- Where no number from 11 to 16 applies, nor 18, and no stage is too large, low, high and note are shown.
+-- Where no number from 11 to 16 applies, nor 18 or 19, and no stage is too large, low, high and note are shown.
 pub tested-shown : (E : Enquiry) → Tested E → stage-too-large E ≡ false → flux-of E ≡ record { state = 0; low = low-of E; high = high-of E; note = note-of E }
 unfolding flux-of
-tested-shown E t large = let w = t .limited in rw (w .fuel, w .area, w .method, w .distance, w .face, w .height, t .flame, large)
+tested-shown E t large = let w = t .limited in rw (w .fuel, w .area, w .method, w .distance, w .face, w .height, w .transmissivity, t .flame, large)

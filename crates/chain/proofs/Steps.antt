@@ -8,7 +8,7 @@ use lib.Signed.{nonNeg}
 use Rattle.pairs.specs.Arithmetic.{Arithmetic}
 use Rattle.pairs.proofs.Kept.{Kept, one-kept, atan-kept, pi-kept, exp-neg-kept, ln-ten-kept}
 use Rattle.chain.specs.declared.enquiry.Enquiry.{Enquiry}
-use Rattle.chain.specs.Chain.{diameter, radius, optical-depth, unabsorbed, heat-release, flame-height, emissive-power-1, radiant-fraction, flame-surface, emissive-power-2, emissive-power, in-radii, diameter-of, unabsorbed-of, heat-release-of, flame-height-of, emissive-power-of, relative-height-of, relative-distance-of, relative-elevation-of, x, g, r, u, v, tilt, height-angle, vertical-ratio, vertical, horizontal-ratio, horizontal, by-face, factor, vertical-above, horizontal-above, vertical-below, horizontal-below, factor-at, configuration-factor-of, radiant-flux}
+use Rattle.chain.specs.Chain.{diameter, radius, optical-depth, unabsorbed, heat-release, flame-height, emissive-power-1, radiant-fraction, flame-surface, emissive-power-2, emissive-power, in-radii, diameter-of, unabsorbed-of, heat-release-of, flame-height-of, emissive-power-of, relative-height-of, relative-distance-of, relative-elevation-of, x, g, r, u, v, tilt, height-angle, vertical-ratio, vertical, horizontal-ratio, horizontal, by-face, factor, vertical-above, horizontal-above, vertical-below, horizontal-below, factor-at, transmitted, configuration-factor-of, clear-flux, radiant-flux}
 
 -- The same choice on both sides.
 pub choice-kept : {X Y : Type 0} (R : X → Y → Type 0) (b : Bool) {p q : X} {c d : Y} → R p c → R q d → R (elim b [ true ↦ p | false ↦ q ]) (elim b [ true ↦ c | false ↦ d ])
@@ -123,6 +123,11 @@ module _ {A B : Arithmetic} {R : A .Carrier → B .Carrier → Type 0} (K : Kept
       (by-face-kept face (K .difference (vertical-kept (K .sum p q) k) (vertical-kept q k))
       (K .difference (horizontal-kept (K .sum p q) k) (horizontal-kept q k)))
 
+  -- ---- step 8
+  pub transmitted-kept : (t : ℕ) {q : A .Carrier} {c : B .Carrier} → R q c → R (transmitted A t q) (transmitted B t c)
+  unfolding transmitted
+  transmitted-kept t h = K .over (K .times h t) 1000
+
   -- ---- the chain of one enquiry
   module _ (E : Enquiry) where
     pub diameter-of-kept : R (diameter-of A E) (diameter-of B E)
@@ -164,6 +169,10 @@ module _ {A B : Arithmetic} {R : A .Carrier → B .Carrier → Type 0} (K : Kept
     configuration-factor-of-kept =
         factor-at-kept (nonNeg (E .height)) (E .face) relative-height-of-kept relative-elevation-of-kept relative-distance-of-kept
 
+    pub clear-flux-kept : R (clear-flux A E) (clear-flux B E)
+    unfolding clear-flux
+    clear-flux-kept = K .product emissive-power-of-kept configuration-factor-of-kept
+
     pub radiant-flux-kept : R (radiant-flux A E) (radiant-flux B E)
     unfolding radiant-flux
-    radiant-flux-kept = K .product emissive-power-of-kept configuration-factor-of-kept
+    radiant-flux-kept = transmitted-kept (E .transmissivity) clear-flux-kept

@@ -32,6 +32,7 @@ number-of turned.Method = 13
 number-of turned.Distance = 14
 number-of turned.Face = 15
 number-of turned.Height = 18
+number-of turned.Transmissivity = 19
 number-of turned.LowFlame = 16
 number-of turned.TooLarge = 17
 
@@ -73,7 +74,8 @@ high-of E = up (1000 * (radiant-flux rounded E) .high) U
 unfoldable pub note-of : Enquiry → ℕ
 note-of E = elim (eqb (E .method) 1 && leb (low-of E) 5000) [ true ↦ 1 | false ↦ 0 ]
 
--- "11 .. 15", then request 1's "18, height outside its limits, after 15 and before 16".
+-- "11 .. 15", then request 1's "18, height outside its limits, after 15 and before 16" and request 3's "19, transmissivity outside
+-- its limits, after 18 and before 16"; "in thousandths, .. 1 to 1,000".
 unfoldable pub flux-of : Enquiry → Shown
 flux-of E =
     refuse (not (fuel-within E)) (refused 11)
@@ -82,6 +84,7 @@ flux-of E =
     (refuse (outside 1_000 200_000 (E .distance)) (refused 14)
     (refuse (outside 1 3 (E .face)) (refused 15)
     (refuse (height-outside (E .height)) (refused 18)
+    (refuse (outside 1 1_000 (E .transmissivity)) (refused 19)
     (refuse (flame-too-low E) (refused 16)
     (refuse (stage-too-large E) (refused 17)
-    (record { state = 0; low = low-of E; high = high-of E; note = note-of E }))))))))
+    (record { state = 0; low = low-of E; high = high-of E; note = note-of E })))))))))

@@ -17,7 +17,7 @@ use Rattle.chain.specs.declared.factor.Seen.{Seen}
 use Rattle.chain.specs.Chain as chain
 use Rattle.chain.specs.Flux.{outside, fuel-within, height-outside}
 
--- No number from 11 to 15 applies, nor 18.
+-- No number from 11 to 15 applies, nor 18 or 19.
 pub record Limited (E : Enquiry) : Type 0 where
   pub fuel : not (fuel-within E) ≡ false
   pub area : outside 100 190_000 (E .area) ≡ false
@@ -25,6 +25,7 @@ pub record Limited (E : Enquiry) : Type 0 where
   pub distance : outside 1_000 200_000 (E .distance) ≡ false
   pub face : outside 1 3 (E .face) ≡ false
   pub height : height-outside (E .height) ≡ false
+  pub transmissivity : outside 1 1_000 (E .transmissivity) ≡ false
 
 -- Low, high and note of q by a method.
 pub record Prints (q : Pair) (method : ℕ) (p : Printed) : Type 0 where

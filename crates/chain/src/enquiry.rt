@@ -19,6 +19,8 @@ pub struct Enquiry {
     pub face: u8,
     // height of the target above the flame's base, mm; negative below it
     pub height: i32,
+    // transmissivity of the air, thousandths
+    pub transmissivity: u16,
 }
 
 // Low and high in W/m², and the note.
@@ -28,7 +30,7 @@ pub struct Printed {
     pub note: u8,
 }
 
-// Why an enquiry is turned back: 11 to 15, 18, 16 and 17 of documents 01 and 02, in this order.
+// Why an enquiry is turned back: 11 to 15, 18, 19, 16 and 17 of documents 01 and 02, in this order.
 pub enum Turned {
     Fuel,
     Area,
@@ -36,6 +38,7 @@ pub enum Turned {
     Distance,
     Face,
     Height,
+    Transmissivity,
     LowFlame,
     TooLarge,
 }

@@ -13,6 +13,7 @@ use super::lifted::exact;
 use super::lifted::over_of;
 use super::lifted::product_of;
 use super::lifted::quotient_of;
+use super::lifted::times_of;
 use super::pool::diameter;
 use super::pool::emissive_power;
 use super::pool::flame_height;
@@ -49,7 +50,14 @@ fn too_low(diameter: Answer, height: Answer) -> bool
     up.low < d / 4 + (d % 4 + 3) / 4
 }
 
-// 8. q = E·F.
+// What the air lets through: times the transmissivity in thousandths, over 1,000.
+fn transmitted(transmissivity: u64, clear: Answer) -> Answer
+    ensures { λ r. ⌜ figures r ≡ chain.transmitted answers transmissivity (figures clear) ⌝ }
+{
+    over_of(times_of(clear, transmissivity), 1_000)
+}
+
+// 8. q, which is E·F through the air.
 fn radiant_flux(e: Enquiry, diameter: Answer, heat: Answer, height: Answer) -> Answer
     requires { ⌜ figures diameter ≡ chain.diameter-of answers e ⌝ }
     requires { ⌜ figures heat ≡ chain.heat-release-of answers e ⌝ }
@@ -60,16 +68,18 @@ fn radiant_flux(e: Enquiry, diameter: Answer, heat: Answer, height: Answer) -> A
     let method = e.method;
     let face = e.face;
     let rim_distance = e.distance as u64;
+    let transmissivity = e.transmissivity as u64;
     let above_base = e.height;
     let from_base = magnitude(above_base) as u64;
     let radius = over_of(diameter, 2);
     let l = quotient_of(height, radius);
     let elevation = quotient_of(exact(from_base * 1_000_000_000), radius);
     let distance = quotient_of(exact(rim_distance * 1_000_000_000), radius);
-    product_of(
+    let clear = product_of(
         emissive_power(method, diameter, heat, height),
         factor_at(from_base_up(above_base), face, l, elevation, distance),
-    )
+    );
+    transmitted(transmissivity, clear)
 }
 
 // Low and high in whole W/m², and the note.
@@ -128,6 +138,9 @@ pub fn flux(e: Enquiry) -> Flux
     let height = e.height;
     if height_outside(height) {
         return Flux::Refused(Turned::Height);
+    }
+    if outside(e.transmissivity as u64, 1, 1_000) {
+        return Flux::Refused(Turned::Transmissivity);
     }
     flux_within(e)
 }

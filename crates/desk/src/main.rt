@@ -58,9 +58,9 @@ fn print(bytes: &[u8]) {
     io::write_all(STDOUT_FILENO, &text[..n]);
 }
 
-// Of every input the first 6,471 bytes are enough: one more than the longest accepted sheet has.
+// Of every input the first 7,495 bytes are enough: one more than the longest accepted sheet has.
 fn main() {
-    let mut bytes = [0u8; 6471];
+    let mut bytes = [0u8; 7495];
     let input = read_input(&mut bytes);
     match input {
         Input::Whole(n) => print(&bytes[..n]),

@@ -13,5 +13,6 @@ pub mod LnTen
 pub mod Flame
 pub mod Factor
 pub mod Flux
+pub mod Clear
 pub mod Demand3
 pub mod Answered

@@ -74,7 +74,7 @@ fn constant(name: &[u8]) -> Reply {
 }
 
 // A pair operation: on two pairs, a pair and a whole number, a pair, or nothing.
-fn operation(name: &[u8], count: usize, values: [u64; 8]) -> Reply {
+fn operation(name: &[u8], count: usize, values: [u64; 9]) -> Reply {
     let p = Pair {
         low: values[0],
         high: values[1],

@@ -29,8 +29,8 @@ fn height_of(size: u64, negative: bool) -> Height {
     Height::Is(size as i32)
 }
 
-// The numbers m k c a method d face of a line, with its height.
-fn at_height(values: [u64; 8], height: i32) -> Reply {
+// The numbers m k c a method d face transmissivity of a line, with its height.
+fn at_height(values: [u64; 9], height: i32) -> Reply {
     let m = values[0];
     let k = values[1];
     let c = values[2];
@@ -38,7 +38,8 @@ fn at_height(values: [u64; 8], height: i32) -> Reply {
     let method = values[4];
     let d = values[5];
     let face = values[6];
-    if 65_535 < m || 65_535 < k || 65_535 < c {
+    let transmissivity = values[8];
+    if 65_535 < m || 65_535 < k || 65_535 < c || 65_535 < transmissivity {
         return Reply::Unreadable;
     }
     if 4_294_967_295 < a || 255 < method || 4_294_967_295 < d || 255 < face {
@@ -53,12 +54,13 @@ fn at_height(values: [u64; 8], height: i32) -> Reply {
         distance: d as u32,
         face: face as u8,
         height,
+        transmissivity: transmissivity as u16,
     }))
 }
 
-// A line `flux m k c a method d face height`.
-pub(crate) fn enquiry(count: usize, values: [u64; 8], negative: bool) -> Reply {
-    if count != 8 {
+// A line `flux m k c a method d face height transmissivity`.
+pub(crate) fn enquiry(count: usize, values: [u64; 9], negative: bool) -> Reply {
+    if count != 9 {
         return Reply::Unreadable;
     }
     let read = height_of(values[7], negative);
@@ -69,7 +71,7 @@ pub(crate) fn enquiry(count: usize, values: [u64; 8], negative: bool) -> Reply {
 }
 
 // A line `factor l e face`.
-pub(crate) fn factor_alone(count: usize, values: [u64; 8]) -> Reply {
+pub(crate) fn factor_alone(count: usize, values: [u64; 9]) -> Reply {
     let face = values[2];
     if count != 3 || 255 < face {
         return Reply::Unreadable;

@@ -2,7 +2,7 @@
 ghost use Prim.Native.Nat.{_≤_};
 ghost use lib.ListN.{length};
 
-// The numbers of a line, in its order, at most eight; the eighth, a height, may have a sign. A line that cannot be read is not readable,
+// The numbers of a line, in its order, at most nine; the eighth, a height, may have a sign. A line that cannot be read is not readable,
 // whatever follows.
 pub(crate) struct Numbers {
     pub(crate) readable: bool,
@@ -11,7 +11,7 @@ pub(crate) struct Numbers {
     // whether the eighth has a sign
     pub(crate) negative: bool,
     pub(crate) count: usize,
-    pub(crate) values: [u64; 8],
+    pub(crate) values: [u64; 9],
 }
 
 fn no_numbers() -> Numbers {
@@ -20,7 +20,7 @@ fn no_numbers() -> Numbers {
         awaited: false,
         negative: false,
         count: 0,
-        values: [0; 8],
+        values: [0; 9],
     }
 }
 
@@ -34,7 +34,7 @@ fn with_blank(mut ns: Numbers) -> Numbers {
     if ns.awaited {
         return unreadable(ns);
     }
-    if 7 < ns.count {
+    if 8 < ns.count {
         return unreadable(ns);
     }
     ns.awaited = true;
@@ -58,7 +58,7 @@ fn with_digit(mut ns: Numbers, digit: u64) -> Numbers {
         return unreadable(ns);
     }
     let at = count - 1;
-    if 7 < at {
+    if 8 < at {
         return unreadable(ns);
     }
     let value = ns.values[at];

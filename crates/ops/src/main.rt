@@ -16,7 +16,7 @@ use line::numbers_in;
 use line::place_of;
 use pairs::answer::Answer;
 
-// 11 to 17 of document 01, and 18 of request 1.
+// 11 to 17 of document 01, 18 of request 1 and 19 of request 3.
 fn turned_number(why: Turned) -> u64 {
     match why {
         Turned::Fuel => 11,
@@ -25,6 +25,7 @@ fn turned_number(why: Turned) -> u64 {
         Turned::Distance => 14,
         Turned::Face => 15,
         Turned::Height => 18,
+        Turned::Transmissivity => 19,
         Turned::LowFlame => 16,
         Turned::TooLarge => 17,
     }

@@ -38,7 +38,7 @@ fn value(b: u8) -> u8
     }
 }
 
-// One more digit. Bytes past the buffer are dropped: of every sheet its first 6,471 are enough.
+// One more digit. Bytes past the buffer are dropped: of every sheet its first 7,495 are enough.
 fn with_digit(line: Line, d: u8, sheet: &mut [u8]) -> Line
     requires { ⌜ Fine line (now sheet) × (d < 16) ⌝ }
     ensures { λ r. ⌜ Fine r (now (sheet .exit)) ⌝ }
@@ -128,6 +128,6 @@ fn replay_all(sheet: &mut [u8]) {
 }
 
 fn main() {
-    let mut sheet = [0u8; 6471];
+    let mut sheet = [0u8; 7495];
     replay_all(&mut sheet);
 }

@@ -1,4 +1,4 @@
--- A longer input than the longest accepted sheet is refused, by the same number as its first 6,471 bytes: no program need read more.
+-- A longer input than the longest accepted sheet is refused, by the same number as its first 7,495 bytes: no program need read more.
 -- Every section that passes ends before those bytes do, so both are read alike. Assumes nothing.
 use mathlib.Core.Path.{_≡_, refl, sym, _∙_}
 use mathlib.Core.Bool.{Bool, true, false}
@@ -108,7 +108,7 @@ texts-alike : (s t : List ℕ) → Alike (reading-of s) (reading-of t) → text-
 unfolding text-of
 texts-alike s t a = rw (a .first, a .second)
 
--- Of every input the first 6,471 bytes are enough.
+-- Of every input the first 7,495 bytes are enough.
 by-length : (P : List ℕ → Type 0) (s : List ℕ) → P s → (longest < length s → P (front s)) → P (front s)
 by-length P s p h = elim (decLt longest (length s)) [ yes l ↦ h l | no l ↦ rw (take-all (longest + 1) s (omega arith)) p ]
 

@@ -11,7 +11,7 @@ use lib.ListN.{length, take, drop, getD}
 use lib.Seq.{getD-take, getD-drop, take-at, drop-at}
 use lib.Dec.{ltb}
 use Rattle.chain.specs.Flux.{flux-of}
-use Rattle.sheet.specs.Layout.{fuel-size, absorption-offset, heat-offset, pool-size, method-offset, target-size, distance-offset, face-offset, height-offset, answer-size, fuel-at, pool-at, target-at}
+use Rattle.sheet.specs.Layout.{fuel-size, absorption-offset, heat-offset, pool-size, method-offset, target-size, distance-offset, face-offset, height-offset, transmissivity-offset, answer-size, fuel-at, pool-at, target-at}
 use Rattle.sheet.specs.Bytes.{one, two, four, signed, four-signed}
 use Rattle.sheet.specs.Reading.{reading-of, fuels-of, pools-of, targets-of, fuel-index, pool-index}
 use Rattle.sheet.specs.Target.{enquiry-at, enquiry-of, shown-of}
@@ -76,6 +76,7 @@ same-enquiry s t f g p q a b u v w =
       distance = same-four s t a b target-size w distance-offset (omega arith) x;
       face = same-one s t a b target-size w face-offset (omega arith) x;
       height = same-signed s t a b target-size w height-offset (omega arith) x;
+      transmissivity = same-two s t a b target-size w transmissivity-offset (omega arith) x;
     }
 
 same-shown :

@@ -1,4 +1,4 @@
--- Document 01, "Sheet and fill", and request 1 of document 02: where each number of a sheet stands. Every size, offset and limit is here and nowhere else.
+-- Document 01, "Sheet and fill", and requests 1 and 3 of document 02: where each number of a sheet stands. Every size, offset and limit is here and nowhere else.
 use Prim.Native.Nat.{ℕ, _+_, _*_}
 
 -- "Three sections in this order, each after a 2-byte count: fuels (at most 64), pools (64), targets (512)."
@@ -35,9 +35,9 @@ abbrev pub method-offset : ℕ
 method-offset = 6
 
 -- "Target: pool index in 2, d in 4, face in 1." Request 1: "A target gains a signed height above the flame's base, 4 bytes in two's
--- complement after the face."
+-- complement after the face." Request 3: "Each target carries it in thousandths, 2 bytes after the height".
 abbrev pub target-size : ℕ
-target-size = 11
+target-size = 13
 
 abbrev pub distance-offset : ℕ
 distance-offset = 2
@@ -47,6 +47,9 @@ face-offset = 6
 
 abbrev pub height-offset : ℕ
 height-offset = 7
+
+abbrev pub transmissivity-offset : ℕ
+transmissivity-offset = 11
 
 -- "The fill writes 10 bytes per target."
 abbrev pub answer-size : ℕ

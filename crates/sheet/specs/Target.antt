@@ -3,12 +3,12 @@ use Prim.Native.Nat.{ℕ, _+_}
 use mathlib.Core.List.{List}
 use Rattle.chain.specs.declared.enquiry.Enquiry.{Enquiry}
 use Rattle.chain.specs.Flux.{Shown, flux-of}
-use Rattle.sheet.specs.Layout.{absorption-offset, heat-offset, method-offset, distance-offset, face-offset, height-offset, fuel-at, pool-at, target-at}
+use Rattle.sheet.specs.Layout.{absorption-offset, heat-offset, method-offset, distance-offset, face-offset, height-offset, transmissivity-offset, fuel-at, pool-at, target-at}
 use Rattle.sheet.specs.Bytes.{one, two, four, four-signed}
 use Rattle.sheet.specs.Reading.{fuels-of, pools-of, fuel-index, pool-index}
 
 -- "Fuel: m, k, c, 2 bytes each. Pool: a in 4, fuel index in 2, method in 1. Target: pool index in 2, d in 4, face in 1."
--- Request 1: "a signed height .., 4 bytes in two's complement after the face".
+-- Request 1: "a signed height .., 4 bytes in two's complement after the face". Request 3: "2 bytes after the height".
 unfoldable pub enquiry-at : List ℕ → ℕ → ℕ → ℕ → Enquiry
 enquiry-at s fuel pool target =
     record {
@@ -20,6 +20,7 @@ enquiry-at s fuel pool target =
       distance = four s (target + distance-offset);
       face = one s (target + face-offset);
       height = four-signed s (target + height-offset);
+      transmissivity = two s (target + transmissivity-offset);
     }
 
 unfoldable pub enquiry-of : List ℕ → ℕ → Enquiry

@@ -14,6 +14,7 @@ use super::layout::HEIGHT;
 use super::layout::METHOD;
 use super::layout::POOL_SIZE;
 use super::layout::TARGET_SIZE;
+use super::layout::TRANSMISSIVITY;
 use super::reading::Counts;
 use chain::enquiry::Enquiry;
 use chain::enquiry::Flux;
@@ -35,7 +36,7 @@ pub(crate) struct Entry {
     pub(crate) note: u8,
 }
 
-// The numbers of "One flux", and 18 of request 1.
+// The numbers of "One flux", 18 of request 1 and 19 of request 3.
 fn number(why: Turned) -> u8
     ensures { λ r. ⌜ r ≡ number-of why ⌝ }
 {
@@ -46,6 +47,7 @@ fn number(why: Turned) -> u8
         Turned::Distance => 14,
         Turned::Face => 15,
         Turned::Height => 18,
+        Turned::Transmissivity => 19,
         Turned::LowFlame => 16,
         Turned::TooLarge => 17,
     }
@@ -85,6 +87,7 @@ fn enquiry(sheet: &[u8], fuel: usize, pool: usize, target: usize) -> Enquiry
         distance: four(sheet, target + DISTANCE),
         face: one(sheet, target + FACE),
         height,
+        transmissivity: two(sheet, target + TRANSMISSIVITY),
     }
 }
 

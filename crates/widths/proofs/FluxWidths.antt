@@ -1,5 +1,5 @@
 -- How far apart the ends of q are at most, by method and face, at any height and level with the base.
--- From the widths of E and of the factor, by one product. Assumes nothing.
+-- From the widths of E and of the factor, by one product; haze adds a trillionth at most. Assumes nothing.
 use mathlib.Core.Path.{_≡_, refl, subst}
 use mathlib.Core.Bool.{Bool, true, false}
 use mathlib.Core.List.{List, [], _∷_}
@@ -15,20 +15,21 @@ use Rattle.pairs.specs.Figures.{Figures}
 use Rattle.pairs.specs.Answers.{answers}
 use Rattle.pairs.proofs.Agreement.{agreement}
 use Rattle.chain.specs.declared.enquiry.Enquiry.{Enquiry}
-use Rattle.chain.specs.Chain.{by-face, factor, factor-at, emissive-power, emissive-power-of, relative-height-of, relative-elevation-of, relative-distance-of, configuration-factor-of, radiant-flux}
+use Rattle.chain.specs.Chain.{by-face, factor, factor-at, emissive-power, emissive-power-of, relative-height-of, relative-elevation-of, relative-distance-of, configuration-factor-of, clear-flux, radiant-flux}
 use Rattle.chain.proofs.Bounds as B
 use Rattle.chain.proofs.Bounds.{Bound, bound, bounds}
 use Rattle.chain.proofs.Inside.{Inside}
 use Rattle.chain.proofs.Within.{Held, within}
-use Rattle.chain.proofs.Steps.{choice-kept, factor-kept, emissive-power-of-kept, relative-height-of-kept, relative-distance-of-kept, radiant-flux-kept}
+use Rattle.chain.proofs.Steps.{choice-kept, factor-kept, emissive-power-of-kept, relative-height-of-kept, relative-distance-of-kept, clear-flux-kept}
 use Rattle.chain.proofs.Boxes.{known, every, each, either}
 use Rattle.chain.proofs.Flame.{emissive-bound-1, emissive-bound-2}
 use Rattle.chain.proofs.Limits.{Tested, between}
 use Rattle.chain.proofs.Accepted as chain
-use Rattle.chain.proofs.Level.{flux-level}
+use Rattle.chain.proofs.Haze.{transmitted-near}
+use Rattle.chain.proofs.Level.{clear-level}
 use Rattle.widths.proofs.FactorWidths.{Placement, level-bound, above-bound, below-bound, level-within, above-within, below-within}
 
--- ---- bounds of q
+-- ---- bounds of E·F
 unfoldable pub emissive-bound : ℕ → Bound
 emissive-bound method = elim (eqb method 1) [ true ↦ emissive-bound-1 | false ↦ emissive-bound-2 ]
 
@@ -36,7 +37,7 @@ emissive-bound method = elim (eqb method 1) [ true ↦ emissive-bound-1 | false 
 unfoldable pub flux-bound : ℕ → Bound → Bound
 flux-bound method F = B.product (emissive-bound method) F
 
--- How wide q is at most, in trillionths of a kW/m², by method and face: at any height, and level with the base.
+-- How wide E·F is at most, in trillionths of a kW/m², by method and face: at any height, and level with the base.
 unfoldable pub width-of : ℕ → ℕ → ℕ
 width-of method face = max ((flux-bound method (above-bound face)) .width) ((flux-bound method (below-bound face)) .width)
 
@@ -51,7 +52,7 @@ pub level-widths : (level-width-of 1 1 ≡ 190_100_001) × (level-width-of 1 2 �
 unfolding level-width-of flux-bound emissive-bound level-bound by-face B.product B.larger bound up
 level-widths = (refl, refl, refl, refl, refl, refl)
 
--- ---- whatever the method, the face and the height, q is not refused
+-- ---- whatever the method, the face and the height, E·F is not refused
 -- Both methods, on each of the faces.
 abbrev face-tests : Bound → List Bool → List Bool
 face-tests F rest = (B.product emissive-bound-1 F) .safe ∷ (B.product emissive-bound-2 F) .safe ∷ rest
@@ -121,18 +122,26 @@ module _ (E : Enquiry) (t : Tested E) where
   within-width true = le-max-left _ _
   within-width false = le-max-right _ _
 
-  pub flux-near : (radiant-flux rounded E) .high ≤ (radiant-flux rounded E) .low + width-of (E .method) (E .face)
-  unfolding radiant-flux configuration-factor-of
+  hazy-near :
+      (w : ℕ) → (clear-flux rounded E) .high ≤ (clear-flux rounded E) .low + w
+      → (radiant-flux rounded E) .high ≤ (radiant-flux rounded E) .low + (w + 1)
+  unfolding radiant-flux
+  hazy-near = transmitted-near (clear-flux rounded E) (between 1 1_000 (E .transmissivity) (t .limited .transmissivity) .high)
+
+  pub flux-near : (radiant-flux rounded E) .high ≤ (radiant-flux rounded E) .low + (width-of (E .method) (E .face) + 1)
+  unfolding clear-flux configuration-factor-of
   flux-near =
+      let w = width-of (E .method) (E .face) in
       let h = at-height (nonNeg (E .height)) in
-      near-of (width-of (E .method) (E .face)) (radiant-flux-kept agreement E .same (h .given)) h (within-width (nonNeg (E .height)))
+      hazy-near w (near-of w (clear-flux-kept agreement E .same (h .given)) h (within-width (nonNeg (E .height))))
 
   level-held : Held (answers .product (emissive-power-of answers E) (factor answers (E .face) (relative-height-of answers E) (relative-distance-of answers E))) (flux-bound (E .method) (level-bound (E .face)))
   unfolding flux-bound
   level-held = within .product (known power-held) (level-within placement (E .face)) .where-safe (level-safe (E .method) (E .face))
 
-  pub level-near : E .height ≡ pos 0 → (radiant-flux rounded E) .high ≤ (radiant-flux rounded E) .low + level-width-of (E .method) (E .face)
+  pub level-near : E .height ≡ pos 0 → (radiant-flux rounded E) .high ≤ (radiant-flux rounded E) .low + (level-width-of (E .method) (E .face) + 1)
   unfolding level-width-of
   level-near level =
       let K = agreement .product (emissive-power-of-kept agreement E) (factor-kept agreement (E .face) (relative-height-of-kept agreement E) (relative-distance-of-kept agreement E)) in
-      rw (flux-level E level) (near-of ((flux-bound (E .method) (level-bound (E .face))) .width) (K .same (level-held .given)) level-held (le-refl _))
+      let w = level-width-of (E .method) (E .face) in
+      hazy-near w (rw (clear-level E level) (near-of w (K .same (level-held .given)) level-held (le-refl w)))

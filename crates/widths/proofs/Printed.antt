@@ -37,7 +37,7 @@ of-three P a b c (suc (suc (suc zero))) l h = c
 of-three P a b c (suc (suc (suc (suc n)))) l h = absurd (omega arith)
 
 abbrev Any-height : ℕ → ℕ → Type 0
-Any-height method face = printed (width-of method face) ≤ at-any-height method face
+Any-height method face = printed (width-of method face + 1) ≤ at-any-height method face
 
 any-height : (method face : ℕ) → 1 ≤ method → method ≤ 2 → 1 ≤ face → face ≤ 3 → Any-height method face
 unfolding at-any-height printed width-of flux-bound emissive-bound above-bound below-bound by-face B.product B.sum B.difference B.larger bound up
@@ -46,7 +46,7 @@ any-height method face l h =
     (of-three (Any-height 2) (lit≤ tt) (lit≤ tt) (lit≤ tt)) (of-three (Any-height 3) (lit≤ tt) (lit≤ tt) (lit≤ tt)) method l (omega arith) face
 
 abbrev Level : ℕ → ℕ → Type 0
-Level method face = printed (level-width-of method face) ≤ at-height-0
+Level method face = printed (level-width-of method face + 1) ≤ at-height-0
 
 level : (method face : ℕ) → 1 ≤ method → method ≤ 2 → 1 ≤ face → face ≤ 3 → Level method face
 unfolding printed level-width-of flux-bound emissive-bound level-bound by-face B.product B.larger bound up
@@ -65,8 +65,8 @@ widths E e =
     let s = shown E t in
     record {
       ordered = rw s (in-order _ _ (accepted E t .ordered));
-      near = rw s (omega (arith, outwards _ _ (width-of (E .method) (E .face)) (flux-near E t), w));
-      near-level = λ z. rw s (omega (arith, outwards _ _ (level-width-of (E .method) (E .face)) (level-near E t z), v));
+      near = rw s (omega (arith, outwards _ _ (width-of (E .method) (E .face) + 1) (flux-near E t), w));
+      near-level = λ z. rw s (omega (arith, outwards _ _ (level-width-of (E .method) (E .face) + 1) (level-near E t z), v));
     }
 
 -- Demand 3's 20 W/m² cover them all.

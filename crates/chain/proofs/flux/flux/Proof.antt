@@ -1,4 +1,4 @@
--- `flux` meets its contract: 11 to 15 and 18 in their order, then what is within the limits.
+-- `flux` meets its contract: 11 to 15, 18 and 19 in their order, then what is within the limits.
 -- Assumes nothing.
 use mathlib.Core.Path.{_≡_, sym, ap, _∙_}
 use mathlib.Core.Bool.{Bool, true, false, not}
@@ -37,6 +37,10 @@ is-15 E a b c d e = rw (a, b, c, d, e)
 is-18 : (E : Enquiry) → not (fuel-within E) ≡ false → outside 100 190_000 (E .area) ≡ false → outside 1 2 (E .method) ≡ false → outside 1_000 200_000 (E .distance) ≡ false → outside 1 3 (E .face) ≡ false → height-outside (E .height) ≡ true → refused 18 ≡ flux-of E
 unfolding flux-of
 is-18 E a b c d e f = rw (a, b, c, d, e, f)
+
+is-19 : (E : Enquiry) → not (fuel-within E) ≡ false → outside 100 190_000 (E .area) ≡ false → outside 1 2 (E .method) ≡ false → outside 1_000 200_000 (E .distance) ≡ false → outside 1 3 (E .face) ≡ false → height-outside (E .height) ≡ false → outside 1 1_000 (E .transmissivity) ≡ true → refused 19 ≡ flux-of E
+unfolding flux-of
+is-19 E a b c d e f g = rw (a, b, c, d, e, f, g)
 
 -- the height, read back from its bits
 read : (z : ℤ) {b o : Bool} → mag z < 2 ^ hbits w32 → b ≡ height-outside (toZ w32 (ofZ w32 z)) → b ≡ o → height-outside z ≡ o
@@ -105,8 +109,24 @@ returns-6 c = let e5 = c .before .before .before in
     let e1 = e2 .before .before .before in
     is-18 _ (ap not (sym (e1 .before .fuel-within .ensures)) ∙ e1 .if1 .left) (sym (e2 .before .outside .ensures) ∙ e2 .if2 .left) (sym (e3 .before .outside2 .ensures) ∙ e3 .if3 .left) (sym (e4 .before .outside3 .ensures) ∙ e4 .if4 .left) (sym (e5 .before .outside4 .ensures) ∙ e5 .if5 .left) (read _ (c .before .before .struct-told .given .1 .1 .1 .1 .1 .1 .1 .0 .1) (c .before .height-outside .ensures) (c .if6 .taken))
 
+cast-outside-5 : tie.Need-cast-outside-5
+cast-outside-5 c = search needs
+
+outside-requires-5 : tie.Need-outside-requires-5
+outside-requires-5 c κs = search needs
+
+returns-7 : tie.Need-returns-7
+returns-7 c = let e6 = c .before .before .before in
+    let e5 = e6 .before .before .before in
+    let e4 = e5 .before .before .before in
+    let e3 = e4 .before .before .before in
+    let e2 = e3 .before .before .before in
+    let e1 = e2 .before .before .before in
+    is-19 _ (ap not (sym (e1 .before .fuel-within .ensures)) ∙ e1 .if1 .left) (sym (e2 .before .outside .ensures) ∙ e2 .if2 .left) (sym (e3 .before .outside2 .ensures) ∙ e3 .if3 .left) (sym (e4 .before .outside3 .ensures) ∙ e4 .if4 .left) (sym (e5 .before .outside4 .ensures) ∙ e5 .if5 .left) (read _ (e6 .before .before .struct-told .given .1 .1 .1 .1 .1 .1 .1 .0 .1) (e6 .before .height-outside .ensures) (e6 .if6 .left)) (sym (c .before .outside5 .ensures) ∙ c .if7 .taken)
+
 flux-within-requires : tie.Need-flux-within-requires
-flux-within-requires c κs = let e5 = c .before .before .before in
+flux-within-requires c κs = let e6 = c .before .before .before in
+    let e5 = e6 .before .before .before in
     let e4 = e5 .before .before .before in
     let e3 = e4 .before .before .before in
     let e2 = e3 .before .before .before in
@@ -117,11 +137,12 @@ flux-within-requires c κs = let e5 = c .before .before .before in
       method = sym (e3 .before .outside2 .ensures) ∙ e3 .if3 .left;
       distance = sym (e4 .before .outside3 .ensures) ∙ e4 .if4 .left;
       face = sym (e5 .before .outside4 .ensures) ∙ e5 .if5 .left;
-      height = read _ (c .before .before .struct-told .given .1 .1 .1 .1 .1 .1 .1 .0 .1) (c .before .height-outside .ensures) (c .if6 .left);
+      height = read _ (e6 .before .before .struct-told .given .1 .1 .1 .1 .1 .1 .1 .0 .1) (e6 .before .height-outside .ensures) (e6 .if6 .left);
+      transmissivity = sym (c .before .outside5 .ensures) ∙ c .if7 .left;
     }
 
-returns-7 : tie.Need-returns-7
-returns-7 c = search needs
+returns-8 : tie.Need-returns-8
+returns-8 c = search needs
 
 pub flux-spec : {M : Type 1} → statement M
 flux-spec =
@@ -143,5 +164,8 @@ flux-spec =
     returns-5
     height-outside-requires
     returns-6
+    cast-outside-5
+    outside-requires-5
+    returns-7
     flux-within-requires
-    returns-7)
+    returns-8)

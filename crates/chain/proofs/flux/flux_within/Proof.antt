@@ -24,7 +24,7 @@ use Rattle.chain.proofs.flux.flux_within.Tie as tie
 
 low-flame : (E : Enquiry) → Limited E → flame-too-low E ≡ true → refused 16 ≡ flux-of E
 unfolding flux-of
-low-flame E w e = rw (w .fuel, w .area, w .method, w .distance, w .face, w .height, e)
+low-flame E w e = rw (w .fuel, w .area, w .method, w .distance, w .face, w .height, w .transmissivity, e)
 
 -- what is printed of the chain's pair
 as-shown :

@@ -54,6 +54,9 @@ module _ (E : Enquiry) (w : Limited E) {k : ℕ} {q x R : Figures} where
 cast-rim-distance : tie.Need-cast-rim-distance
 cast-rim-distance c = search needs
 
+cast-transmissivity : tie.Need-cast-transmissivity
+cast-transmissivity c = search needs
+
 magnitude-requires : tie.Need-magnitude-requires
 magnitude-requires c κs = search needs
 
@@ -94,7 +97,7 @@ factor-at-requires : tie.Need-factor-at-requires
 factor-at-requires c κs =
     let s = c .before .before in
     let over = s .before .before .before .before .before in
-    let start = over .before .before .before .before in
+    let start = over .before .before .before .before .before in
     let E = start .args .e in
     let w = start .pre .1 .1 .1 in
     let distance = distance-is E w refl (s .quotient-of3 .ensures) (s .before .exact2 .ensures) (radius-is (over .over-of .ensures) (start .pre .0)) in
@@ -103,12 +106,16 @@ factor-at-requires c κs =
 product-of-requires : tie.Need-product-of-requires
 product-of-requires c κs = search needs
 
+transmitted-requires : tie.Need-transmitted-requires
+transmitted-requires c κs = search needs
+
 returns : tie.Need-returns
-unfolding chain.radiant-flux chain.emissive-power-of chain.configuration-factor-of chain.relative-height-of chain.in-radii
+unfolding chain.radiant-flux chain.clear-flux chain.emissive-power-of chain.configuration-factor-of chain.relative-height-of chain.in-radii
 returns c =
-    let s = c .before .before .before .before in
+    let p = c .before in
+    let s = p .before .before .before .before in
     let over = s .before .before .before .before .before in
-    let start = over .before .before .before .before in
+    let start = over .before .before .before .before .before in
     let E = start .args .e in
     let D = start .pre .0 in
     let Q = start .pre .1 .0 in
@@ -119,16 +126,17 @@ returns c =
     let l = s .before .before .before .before .quotient-of .ensures ∙ ap₂ A.quotient L radius in
     let elevation = elevation-is E w (over .before .magnitude .ensures ∙ ap natAbs back) (s .before .before .quotient-of2 .ensures) (s .before .before .before .exact .ensures) radius in
     let distance = distance-is E w refl (s .quotient-of3 .ensures) (s .before .exact2 .ensures) radius in
-    let side = c .before .before .from-base-up .ensures ∙ ap nonNeg back in
-    let factor = c .before .factor-at .ensures ∙ same-factor (E .face) side l elevation distance in
-    let power = c .before .before .before .emissive-power .ensures ∙ same-power (E .method) D Q L in
-    c .product-of .ensures ∙ ap₂ A.product power factor
+    let side = p .before .before .from-base-up .ensures ∙ ap nonNeg back in
+    let factor = p .before .factor-at .ensures ∙ same-factor (E .face) side l elevation distance in
+    let power = p .before .before .before .emissive-power .ensures ∙ same-power (E .method) D Q L in
+    c .transmitted .ensures ∙ ap (chain.transmitted A.answers (E .transmissivity)) (p .product-of .ensures ∙ ap₂ A.product power factor)
 
 pub radiant-flux-spec : {M : Type 1} → statement M
 radiant-flux-spec =
     tie.close
     (tie.spec
     cast-rim-distance
+    cast-transmissivity
     magnitude-requires
     cast-from-base
     over-of-requires
@@ -143,4 +151,5 @@ radiant-flux-spec =
     from-base-up-requires
     factor-at-requires
     product-of-requires
+    transmitted-requires
     returns)

@@ -50,10 +50,17 @@ add-one-2 c = search needs
 one-requires-2 : tie.Need-one-requires-2
 one-requires-2 c κs = search needs
 
+add-two-3 : tie.Need-add-two-3
+add-two-3 c = search needs
+
+two-requires-4 : tie.Need-two-requires-4
+two-requires-4 c κs = search needs
+
 returns : tie.Need-returns
 unfolding enquiry-at
 returns c =
-    let b = c .before .before in
+    let f = c .before in
+    let b = f .before .before in
     let d = b .before .before in
     let h = d .before .before .before .four-signed in
     λ j. record {
@@ -62,9 +69,10 @@ returns c =
       heat = d .two3 .ensures j;
       area = b .before .four .ensures j;
       method = b .one .ensures j;
-      distance = c .before .four2 .ensures j;
-      face = c .one2 .ensures j;
+      distance = f .before .four2 .ensures j;
+      face = f .one2 .ensures j;
       height = (toZ-ofZ w32 (h .result) (record { sfits = h .ok }) ∙ h .ensures) j;
+      transmissivity = c .two4 .ensures j;
     }
 
 pub enquiry-spec : {M : Type 1} → statement M
@@ -85,4 +93,6 @@ enquiry-spec =
     four-requires-2
     add-one-2
     one-requires-2
+    add-two-3
+    two-requires-4
     returns)
