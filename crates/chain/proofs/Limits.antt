@@ -7,7 +7,7 @@ use native.Mathlib.Nat.{le-trans}
 use native.Mathlib.Omega.{arith}
 use lib.Dec.{T, leb, leb→le, lit≤}
 use lib.IntN.{ℤ, pos, negsuc, natAbs}
-use Rattle.pairs.specs.Figures.{refuse}
+use Rattle.pairs.proofs.Agreement.{past-test}
 use Rattle.chain.specs.declared.enquiry.Enquiry.{Enquiry}
 use Rattle.chain.specs.Flux.{Shown, refused, outside, fuel-within, height-outside, flame-too-low, stage-too-large, low-of, high-of, note-of, flux-of}
 use Rattle.chain.specs.Private.{Limited}
@@ -55,31 +55,19 @@ unfolding height-outside
 height (pos n) e = between 0 20_000 n e .high
 height (negsuc n) e = le-trans (between 0 5_000 _ e .high) (lit≤ tt)
 
--- A test before what follows: another state than its own number is that of what follows.
-follows : (b : Bool) (n k : ℕ) (s : Shown) → (n ≡ k → ⊥) → (refuse b (refused n) s) .state ≡ k → (b ≡ false) × (s .state ≡ k)
-follows true n k s other e = absurd (other e)
-follows false n k s other e = (refl, e)
-
 -- A state that is none of 11 to 16, 18 and 19 comes after all their tests.
 pub past-tests : (E : Enquiry) (k : ℕ) → ((n : ℕ) → 11 ≤ n → n ≤ 19 → (n ≡ 17 → ⊥) → n ≡ k → ⊥) → (flux-of E) .state ≡ k → Tested E
 unfolding flux-of
 past-tests E k other e =
-    let s17 = refuse (stage-too-large E) (refused 17) (record { state = 0; low = low-of E; high = high-of E; note = note-of E }) in
-    let s16 = refuse (flame-too-low E) (refused 16) s17 in
-    let s19 = refuse (outside 1 1_000 (E .transmissivity)) (refused 19) s16 in
-    let s18 = refuse (height-outside (E .height)) (refused 18) s19 in
-    let s15 = refuse (outside 1 3 (E .face)) (refused 15) s18 in
-    let s14 = refuse (outside 1_000 200_000 (E .distance)) (refused 14) s15 in
-    let s13 = refuse (outside 1 2 (E .method)) (refused 13) s14 in
-    let s12 = refuse (outside 100 190_000 (E .area)) (refused 12) s13 in
-    let t11 = follows (not (fuel-within E)) 11 k s12 (other 11 (lit≤ tt) (lit≤ tt) (λ z. omega (arith, z))) e in
-    let t12 = follows (outside 100 190_000 (E .area)) 12 k s13 (other 12 (lit≤ tt) (lit≤ tt) (λ z. omega (arith, z))) (t11 .1) in
-    let t13 = follows (outside 1 2 (E .method)) 13 k s14 (other 13 (lit≤ tt) (lit≤ tt) (λ z. omega (arith, z))) (t12 .1) in
-    let t14 = follows (outside 1_000 200_000 (E .distance)) 14 k s15 (other 14 (lit≤ tt) (lit≤ tt) (λ z. omega (arith, z))) (t13 .1) in
-    let t15 = follows (outside 1 3 (E .face)) 15 k s18 (other 15 (lit≤ tt) (lit≤ tt) (λ z. omega (arith, z))) (t14 .1) in
-    let t18 = follows (height-outside (E .height)) 18 k s19 (other 18 (lit≤ tt) (lit≤ tt) (λ z. omega (arith, z))) (t15 .1) in
-    let t19 = follows (outside 1 1_000 (E .transmissivity)) 19 k s16 (other 19 (lit≤ tt) (lit≤ tt) (λ z. omega (arith, z))) (t18 .1) in
-    let t16 = follows (flame-too-low E) 16 k s17 (other 16 (lit≤ tt) (lit≤ tt) (λ z. omega (arith, z))) (t19 .1) in
+    let P : Shown → Type 0 = λ s. s .state ≡ k in
+    let t11 = past-test P (not (fuel-within E)) (other 11 (lit≤ tt) (lit≤ tt) (λ z. omega (arith, z))) e in
+    let t12 = past-test P (outside 100 190_000 (E .area)) (other 12 (lit≤ tt) (lit≤ tt) (λ z. omega (arith, z))) (t11 .1) in
+    let t13 = past-test P (outside 1 2 (E .method)) (other 13 (lit≤ tt) (lit≤ tt) (λ z. omega (arith, z))) (t12 .1) in
+    let t14 = past-test P (outside 1_000 200_000 (E .distance)) (other 14 (lit≤ tt) (lit≤ tt) (λ z. omega (arith, z))) (t13 .1) in
+    let t15 = past-test P (outside 1 3 (E .face)) (other 15 (lit≤ tt) (lit≤ tt) (λ z. omega (arith, z))) (t14 .1) in
+    let t18 = past-test P (height-outside (E .height)) (other 18 (lit≤ tt) (lit≤ tt) (λ z. omega (arith, z))) (t15 .1) in
+    let t19 = past-test P (outside 1 1_000 (E .transmissivity)) (other 19 (lit≤ tt) (lit≤ tt) (λ z. omega (arith, z))) (t18 .1) in
+    let t16 = past-test P (flame-too-low E) (other 16 (lit≤ tt) (lit≤ tt) (λ z. omega (arith, z))) (t19 .1) in
     record {
       limited = record { fuel = t11 .0; area = t12 .0; method = t13 .0; distance = t14 .0; face = t15 .0; height = t18 .0; transmissivity = t19 .0 };
       flame = t16 .0;

@@ -28,10 +28,16 @@ after-passed a f h = by-number (a .number) (a .pair) h
     by-number zero p e = record { first = refl; same = refl }
     by-number (suc n) p e = absurd (omega (arith, e))
 
+-- What holds of a tested result and not of the refusal: the test failed, and it holds of what follows.
+pub past-test : {X : Type 0} (P : X → Type 0) (b : Bool) {refusal rest : X} → (P refusal → ⊥) → P (refuse b refusal rest) → (b ≡ false) × P rest
+past-test P true other h = absurd (other h)
+past-test P false other h = (refl, h)
+
 -- A refusal's test failed, and what follows stands.
 pub refuse-passed : (b : Bool) (n : ℕ) (f : Figures) → (refuse b (refused (suc n)) f) .number ≡ 0 → (T b → ⊥) × (refuse b (refused (suc n)) f ≡ f)
-refuse-passed true n f h = absurd (omega (arith, h))
-refuse-passed false n f h = ((λ t. t), refl)
+refuse-passed b n f h =
+    let failed = past-test (λ (f : Figures). f .number ≡ 0) b (λ e. omega (arith, e)) h .0 in
+    ((λ t. subst T failed t), rw failed)
 
 pub fitting-passed : (p : Pair) → (fitting p) .number ≡ 0 → fitting p ≡ given p
 unfolding fitting
@@ -104,12 +110,8 @@ admit-same p = tested-same (ltb (p .high) (p .low)) 60
 admit-two-same : {r : Pair} (p q : Pair) (f : Figures) → (f .number ≡ 0 → f .pair ≡ r) → (admit p (admit q f)) .number ≡ 0 → (admit p (admit q f)) .pair ≡ r
 admit-two-same p q f h = admit-same p (admit q f) (admit-same q f h)
 
--- What stands behind a test that was passed.
-past : (b : Bool) (n : ℕ) (f : Figures) → (refuse b (refused (suc n)) f) .number ≡ 0 → f .number ≡ 0
-past b n f z = rw (refuse-passed b n f z .1) at z
-
 past-admit : (p : Pair) (f : Figures) → (admit p f) .number ≡ 0 → f .number ≡ 0
-past-admit p = past (ltb (p .high) (p .low)) 60
+past-admit p f z = past-test (λ (f : Figures). f .number ≡ 0) (ltb (p .high) (p .low)) (λ e. omega (arith, e)) z .1
 
 -- A test that lets the pair itself through.
 let-through : {a : Figures} {p : Pair} (b : Bool) → Agrees a p → Agrees (after a (admit (a .pair) (refuse b (refused 63) (given (a .pair))))) p

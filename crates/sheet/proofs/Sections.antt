@@ -11,6 +11,7 @@ use lib.ListN.{length}
 use lib.Dec.{leb, ltb}
 use borrow.Author.Tests.{ltb-false, leb-false, lt-ltb, le-ltb, lt-leb, le-leb}
 use Rattle.pairs.specs.Figures.{refuse}
+use Rattle.pairs.proofs.Agreement.{past-test}
 use Rattle.sheet.specs.declared.reading.Fault.{Fault}
 use Rattle.sheet.specs.declared.reading.Fault.the-variants.{CutShort, TooMany}
 use Rattle.sheet.specs.declared.reading.Reading.the-variants.{Refused}
@@ -119,8 +120,7 @@ holding s start size most n e =
 
 -- A test that was passed on the way to state 0.
 passed : (b : Bool) (k : ℕ) (x o : Outcome) → refuse b (refused (suc k)) x ≡ o → o .state ≡ 0 → (b ≡ false) × (x ≡ o)
-passed true k x o e z = let w : suc k ≡ o .state = ap (λ (y : Outcome). y .state) e in absurd (omega arith)
-passed false k x o e z = (refl, e)
+passed b k x o e z = past-test (λ (y : Outcome). y ≡ o) b (λ w. let n : suc k ≡ o .state = ap (λ (y : Outcome). y .state) w in omega arith) e
 
 section-passed :
     (s : List ℕ) (start size most : ℕ) (rest o : Outcome) → reading.section s start size most rest ≡ o → o .state ≡ 0
