@@ -1,5 +1,6 @@
 -- No operation refuses before the flame test inside the limits of 11 and 12, and none at all in an accepted enquiry, at any
--- height and through any haze; the pair it gives is ordered and fits. From the sweeps, by the agreement of answers and rounded pairs. Assumes nothing.
+-- height and through any haze; the pair it gives is ordered and fits. From the sweeps, by the agreement of answers and rounded
+-- pairs. Assumes nothing.
 use mathlib.Core.Path.{_≡_, subst, ap}
 use mathlib.Core.Bool.{true, false, not}
 use Prim.Native.Nat.{ℕ, suc, _*_, _≤_}
@@ -26,7 +27,7 @@ use Rattle.chain.proofs.Configuration.{relative-height-bound, elevation
 use Rattle.chain.proofs.Flame.{emissive-bound-1, emissive-bound-2, Area}
 use Rattle.chain.proofs.Areas.{areas}
 use Rattle.chain.proofs.Haze.{transmitted-ordered, transmitted-high}
-use Rattle.chain.proofs.Limits.{Tested, between, fuel, height, past-tests, tested-shown}
+use Rattle.chain.proofs.Limits.{Tested, between, fuel, height, transmissivity, past-tests, tested-shown}
 
 -- ---- inside the limits of 11 and 12
 pub record Unrefused (E : Enquiry) : Type 0 where
@@ -107,8 +108,7 @@ clear-held E t =
 flux-not-refused : (E : Enquiry) → Tested E → (radiant-flux answers E) .number ≡ 0
 unfolding radiant-flux transmitted
 flux-not-refused E t =
-    let haze = between 1 1_000 (E .transmissivity) (t .limited .transmissivity) in
-    part-held (E .transmissivity) 1000 tt (lit< tt) (omega (arith, mul-le-mul-left (flux-bound .most) (haze .high))) (clear-held E t) .given
+    part-held (E .transmissivity) 1000 tt (lit< tt) (omega (arith, mul-le-mul-left (flux-bound .most) (transmissivity E (t .limited)))) (clear-held E t) .given
 
 pub record Accepted (E : Enquiry) : Type 0 where
   -- No operation of the chain is refused: not by 62, 63 or 64.
@@ -122,7 +122,7 @@ accepted E t =
     let h = clear-held E t in
     let i = subst (λ (f : Figures). Inside (f .pair) flux-bound) (agreed (clear-flux-kept agreement E) (h .given)) (h .inside) in
     let q = clear-flux rounded E in
-    let most = between 1 1_000 (E .transmissivity) (t .limited .transmissivity) .high in
+    let most = transmissivity E (t .limited) in
     record {
       flux-given = agreed (radiant-flux-kept agreement E) (flux-not-refused E t);
       ordered = transmitted-ordered q most (i .ordered);

@@ -77,20 +77,16 @@ module _ (method face : ℕ) (height : ℤ) (transmissivity : ℕ) where
     pub each-accepted : (flux-of E) .state ≡ 0
     each-accepted = ap (λ (s : Shown). s .state) (shown E example-tested)
 
--- So from the base up, at the base and below it, in clear air and in the thickest haze.
-module _ (method face : ℕ) (m : outside 1 2 method ≡ false) (f : outside 1 3 face ≡ false) where
-  pub above-accepted : (flux-of (example method face (pos 2_000) 1_000)) .state ≡ 0
+-- So from the base up, at the base and below it, through any haze.
+module _ (method face transmissivity : ℕ) (m : outside 1 2 method ≡ false) (f : outside 1 3 face ≡ false) (t : outside 1 1_000 transmissivity ≡ false) where
+  pub above-accepted : (flux-of (example method face (pos 2_000) transmissivity)) .state ≡ 0
   unfolding height-outside
-  above-accepted = each-accepted method face (pos 2_000) 1_000 m f refl refl
+  above-accepted = each-accepted method face (pos 2_000) transmissivity m f refl t
 
-  pub level-accepted : (flux-of (example method face (pos 0) 1_000)) .state ≡ 0
+  pub level-accepted : (flux-of (example method face (pos 0) transmissivity)) .state ≡ 0
   unfolding height-outside
-  level-accepted = each-accepted method face (pos 0) 1_000 m f refl refl
+  level-accepted = each-accepted method face (pos 0) transmissivity m f refl t
 
-  pub below-accepted : (flux-of (example method face (negsuc 1_999) 1_000)) .state ≡ 0
+  pub below-accepted : (flux-of (example method face (negsuc 1_999) transmissivity)) .state ≡ 0
   unfolding height-outside
-  below-accepted = each-accepted method face (negsuc 1_999) 1_000 m f refl refl
-
-  pub hazy-accepted : (flux-of (example method face (pos 0) 1)) .state ≡ 0
-  unfolding height-outside
-  hazy-accepted = each-accepted method face (pos 0) 1 m f refl refl
+  below-accepted = each-accepted method face (negsuc 1_999) transmissivity m f refl t

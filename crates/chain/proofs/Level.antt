@@ -141,14 +141,14 @@ clear-level E level =
     elevation-0 : relative-elevation-of rounded E ≡ nothing
     elevation-0 = rw level (quotient-of-0 _)
 
--- Request 1: "Height 0 must print what it printed before."
+-- Request 1: "Height 0 must print what it printed before.", through any haze.
 pub printed-level :
     (E : Enquiry) → E .height ≡ pos 0
     → Prints (transmitted rounded (E .transmissivity) (level-flux E)) (E .method) (record { low = low-of E; high = high-of E; note = note-of E })
 unfolding radiant-flux
 printed-level E level = printed-from E _ (ap (transmitted rounded (E .transmissivity)) (clear-level E level))
 
--- With request 3: at height 0 and 1,000 what was printed before either.
+-- And in clear air what was printed before there was haze.
 pub printed-level-clear :
     (E : Enquiry) → E .height ≡ pos 0 → E .transmissivity ≡ 1000
     → Prints (level-flux E) (E .method) (record { low = low-of E; high = high-of E; note = note-of E })

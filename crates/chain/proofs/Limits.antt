@@ -55,6 +55,9 @@ unfolding height-outside
 height (pos n) e = between 0 20_000 n e .high
 height (negsuc n) e = le-trans (between 0 5_000 _ e .high) (lit≤ tt)
 
+pub transmissivity : (E : Enquiry) → Limited E → E .transmissivity ≤ 1000
+transmissivity E w = between 1 1_000 (E .transmissivity) (w .transmissivity) .high
+
 -- A state that is none of 11 to 16, 18 and 19 comes after all their tests.
 pub past-tests : (E : Enquiry) (k : ℕ) → ((n : ℕ) → 11 ≤ n → n ≤ 19 → (n ≡ 17 → ⊥) → n ≡ k → ⊥) → (flux-of E) .state ≡ k → Tested E
 unfolding flux-of

@@ -1,4 +1,5 @@
--- Document 01, "Chain": steps 1 to 8 over any arithmetic, each with its formula in ISO 24678-7; with the heights of request 1 and the haze of request 3.
+-- Document 01, "Chain": steps 1 to 8 over any arithmetic, each with its formula in ISO 24678-7; with the heights of request 1 and
+-- the haze of request 3.
 -- A height is an integer: `natAbs` is its magnitude, `nonNeg` says that it is not negative.
 use Prim.Native.Nat.{ℕ, _*_}
 use mathlib.Core.Bool.{Bool, true, false}
@@ -138,7 +139,7 @@ module _ (A : Arithmetic) where
         | false ↦ by-face face (vertical-below l h e) (horizontal-below l h e)
       ]
 
-  -- Request 3: "The flux becomes (E·F) times that number over 1,000.": the transmissivity of the air in thousandths. (A.1)
+  -- Request 3: "The flux becomes (E·F) times that number over 1,000.": the transmissivity of the air, in thousandths.
   unfoldable pub transmitted : ℕ → A .Carrier → A .Carrier
   transmitted transmissivity clear = A .over (A .times clear transmissivity) 1000
 
@@ -180,10 +181,10 @@ module _ (A : Arithmetic) where
   configuration-factor-of E =
       factor-at (nonNeg (E .height)) (E .face) (relative-height-of E) (relative-elevation-of E) (relative-distance-of E)
 
-  -- 8. "q = E·F kW/m².": in clear air.
+  -- 8. "q = E·F kW/m²." (A.1 in clear air)
   unfoldable pub clear-flux : Enquiry → A .Carrier
   clear-flux E = A .product (emissive-power-of E) (configuration-factor-of E)
 
-  -- q of request 3, by the transmissivity of the enquiry.
+  -- Request 3: that flux by the transmissivity of the enquiry. (A.1)
   unfoldable pub radiant-flux : Enquiry → A .Carrier
   radiant-flux E = transmitted (E .transmissivity) (clear-flux E)

@@ -23,7 +23,7 @@ use Rattle.chain.proofs.Within.{Held, within}
 use Rattle.chain.proofs.Steps.{choice-kept, factor-kept, emissive-power-of-kept, relative-height-of-kept, relative-distance-of-kept, clear-flux-kept}
 use Rattle.chain.proofs.Boxes.{known, every, each, either}
 use Rattle.chain.proofs.Flame.{emissive-bound-1, emissive-bound-2}
-use Rattle.chain.proofs.Limits.{Tested, between}
+use Rattle.chain.proofs.Limits.{Tested, between, transmissivity}
 use Rattle.chain.proofs.Accepted as chain
 use Rattle.chain.proofs.Haze.{transmitted-near}
 use Rattle.chain.proofs.Level.{clear-level}
@@ -126,7 +126,7 @@ module _ (E : Enquiry) (t : Tested E) where
       (w : ℕ) → (clear-flux rounded E) .high ≤ (clear-flux rounded E) .low + w
       → (radiant-flux rounded E) .high ≤ (radiant-flux rounded E) .low + (w + 1)
   unfolding radiant-flux
-  hazy-near = transmitted-near (clear-flux rounded E) (between 1 1_000 (E .transmissivity) (t .limited .transmissivity) .high)
+  hazy-near = transmitted-near (clear-flux rounded E) (transmissivity E (t .limited))
 
   pub flux-near : (radiant-flux rounded E) .high ≤ (radiant-flux rounded E) .low + (width-of (E .method) (E .face) + 1)
   unfolding clear-flux configuration-factor-of
