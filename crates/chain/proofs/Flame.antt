@@ -4,11 +4,11 @@ use mathlib.Core.Path.{_≡_, refl}
 use mathlib.Core.Bool.{Bool, true, false, _&&_}
 use mathlib.Core.List.{List, [], _∷_}
 use mathlib.Core.Logic.{inl, inr}
-use Prim.Native.Nat.{ℕ, zero, suc, _+_, _*_, _/_, _^_, _≤_, _<_, zero-le, max, min}
+use Prim.Native.Nat.{ℕ, zero, suc, _+_, _*_, _/_, _≤_, _<_, zero-le, max, min}
 use native.Mathlib.Nat.{le-trans, le-refl, lt-of-le-of-lt, mul-le-mul, mul-le-mul-left, mul-le-mul-right, max-le}
 use native.Mathlib.Omega.{arith}
-use lib.Dec.{T, leb, ltb, leb→le, ltb→lt, lt→ltb, lit<}
-use lib.Ieee.Fits.{and-i, and-l, and-r}
+use lib.Dec.{T, leb, ltb, leb→le, ltb→lt, lit<}
+use lib.Ieee.Fits.{and-l, and-r}
 use Rattle.pairs.specs.Rounded as R
 use Rattle.pairs.specs.Rounded.{U, up, down, fifth-power-up}
 use Rattle.pairs.specs.Answers.{answers}

@@ -9,7 +9,7 @@ use lib.Dec.{T, leb, leb→le, lit≤}
 use lib.IntN.{ℤ, pos, negsuc, natAbs}
 use Rattle.pairs.proofs.Agreement.{past-test}
 use Rattle.chain.specs.declared.enquiry.Enquiry.{Enquiry}
-use Rattle.chain.specs.Flux.{Shown, refused, outside, fuel-within, height-outside, flame-too-low, stage-too-large, low-of, high-of, note-of, flux-of}
+use Rattle.chain.specs.Flux.{Shown, outside, fuel-within, height-outside, flame-too-low, stage-too-large, low-of, high-of, note-of, flux-of}
 use Rattle.chain.specs.Private.{Limited}
 use Rattle.chain.proofs.Flame.{Fuel}
 

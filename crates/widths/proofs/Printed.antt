@@ -4,7 +4,6 @@ use Prim.Native.Nat.{ℕ, zero, suc, _+_, _*_, _≤_}
 use native.Mathlib.Omega.{arith}
 use lib.Dec.{lit≤, eqb}
 use Rattle.pairs.specs.Rounded.{U, up, down}
-use Rattle.chain.specs.declared.enquiry.Enquiry.{Enquiry}
 use Rattle.chain.specs.Chain.{by-face}
 use Rattle.chain.specs.Flux.{low-of, high-of}
 use Rattle.chain.proofs.Bounds as B
