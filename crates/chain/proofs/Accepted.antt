@@ -22,7 +22,7 @@ use Rattle.chain.proofs.Bounds.{Bound, bound}
 use Rattle.chain.proofs.Inside.{Inside}
 use Rattle.chain.proofs.Within.{Held, within}
 use Rattle.chain.proofs.Steps.{diameter-of-kept, unabsorbed-of-kept, heat-release-of-kept, flame-height-of-kept, clear-flux-kept, radiant-flux-kept}
-use Rattle.chain.proofs.Boxes.{known, passing, passed, part-held, either}
+use Rattle.chain.proofs.Boxes.{known, passing, passed, times-over-held, either}
 use Rattle.chain.proofs.Configuration.{relative-height-bound, elevation-bound, relative-distance-bound, spaced, factor-at-held}
 use Rattle.chain.proofs.Flame.{emissive-bound-1, emissive-bound-2, Area}
 use Rattle.chain.proofs.Areas.{areas}
@@ -89,26 +89,26 @@ bounded E t =
     }
 
 -- E·F in trillionths of a kW/m², whatever the method, the face and the height.
-abbrev flux-bound : Bound
-flux-bound = record { least = 0; most = 6_300 * U; width = 2_000 * U; safe = true }
+abbrev clear-bound : Bound
+clear-bound = record { least = 0; most = 6_300 * U; width = 2_000 * U; safe = true }
 
 power-held : (E : Enquiry) → Bounded E → Held (emissive-power-of answers E) emissive-bound-2
 unfolding emissive-power-of emissive-power passing
 power-held E s = either (λ f. Held f emissive-bound-2) (eqb (E .method) 1) (passed emissive-bound-2 tt (known (s .power-1))) (s .power-2)
 
-clear-held : (E : Enquiry) → Tested E → Held (clear-flux answers E) flux-bound
+clear-held : (E : Enquiry) → Tested E → Held (clear-flux answers E) clear-bound
 unfolding clear-flux configuration-factor-of passing B.product bound up down
 clear-held E t =
     let s = bounded E t in
-    passed flux-bound tt
+    passed clear-bound tt
     (within .product (known (power-held E s))
     (known (factor-at-held (s .height) (s .elevation) (spaced (s .distance)) (nonNeg (E .height)) (E .face))))
 
--- 1,000 times it is below 2^64, so the air refuses nothing either.
+-- 1,000 times E·F is below 2^64 trillionths, so neither operation of the haze refuses.
 flux-not-refused : (E : Enquiry) → Tested E → (radiant-flux answers E) .number ≡ 0
 unfolding radiant-flux transmitted
 flux-not-refused E t =
-    part-held (E .transmissivity) 1000 tt (lit< tt) (omega (arith, mul-le-mul-left (flux-bound .most) (transmissivity E (t .limited)))) (clear-held E t) .given
+    times-over-held (E .transmissivity) 1000 tt (lit< tt) (omega (arith, mul-le-mul-left (clear-bound .most) (transmissivity E (t .limited)))) (clear-held E t) .given
 
 pub record Accepted (E : Enquiry) : Type 0 where
   -- No operation of the chain is refused: not by 62, 63 or 64.
@@ -120,13 +120,13 @@ pub accepted : (E : Enquiry) → Tested E → Accepted E
 unfolding radiant-flux
 accepted E t =
     let h = clear-held E t in
-    let i = subst (λ (f : Figures). Inside (f .pair) flux-bound) (agreed (clear-flux-kept agreement E) (h .given)) (h .inside) in
-    let q = clear-flux rounded E in
+    let i = subst (λ (f : Figures). Inside (f .pair) clear-bound) (agreed (clear-flux-kept agreement E) (h .given)) (h .inside) in
+    let clear = clear-flux rounded E in
     let most = transmissivity E (t .limited) in
     record {
       flux-given = agreed (radiant-flux-kept agreement E) (flux-not-refused E t);
-      ordered = transmitted-ordered q most (i .ordered);
-      high = le-trans (transmitted-high q most) (i .high);
+      ordered = transmitted-ordered clear most (i .ordered);
+      high = le-trans (transmitted-high clear most) (i .high);
     }
 
 -- ---- as printed

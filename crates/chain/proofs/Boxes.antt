@@ -1,4 +1,5 @@
--- Boxes for the sweeps, and what is known of an answer: inside a box, inside a wider bound, a constant of the enquiry.
+-- Boxes for the sweeps, and what is known of an answer: inside a box, inside a wider bound, a constant of the enquiry, an answer
+-- times k over n.
 -- Assumes nothing.
 use mathlib.Core.Path.{_≡_, ap, subst, sym}
 use mathlib.Core.Bool.{Bool, true, false, _&&_}
@@ -86,19 +87,19 @@ constant-held n d b small h =
     let fits : fitting (R.constant n d) ≡ given (R.constant n d) = fitting-given _ (lt-of-le-of-lt (h .high) small) in
     record { given = ap (λ (f : Figures). f .number) fits; inside = subst (λ (f : Figures). Inside (f .pair) b) (sym fits) h }
 
--- An answer so many times over n, where so many times its bound fits.
-part-safe : (b : Bound) (k n : ℕ) → T (b .safe) → zero < n → b .most * k < 2 ^ 64 → T ((B.over (B.times b k) n) .safe)
+-- An answer times k, over n, where k times its bound stays below 2^64.
+times-over-safe : (b : Bound) (k n : ℕ) → T (b .safe) → zero < n → b .most * k < 2 ^ 64 → T ((B.over (B.times b k) n) .safe)
 unfolding B.over B.times bound
-part-safe b k n t above fits =
+times-over-safe b k n t above fits =
     let m = b .most * k in
     and-i (ltb (R.up m n) (2 ^ 64)) (ltb 0 n && (ltb m (2 ^ 64) && b .safe))
     (lt→ltb (R.up m n) (2 ^ 64) (lt-of-le-of-lt (up-le m n above) fits))
     (and-i (ltb 0 n) (ltb m (2 ^ 64) && b .safe) (lt→ltb 0 n above) (and-i (ltb m (2 ^ 64)) (b .safe) (lt→ltb m (2 ^ 64) fits) t))
 
-pub part-held :
+pub times-over-held :
     {f : Figures} {b : Bound} (k n : ℕ) → T (b .safe) → zero < n → b .most * k < 2 ^ 64 → Held f b
     → Held (answers .over (answers .times f k) n) (B.over (B.times b k) n)
-part-held {b = b} k n t above fits h = within .over (within .times (known h) k) n .where-safe (part-safe b k n t above fits)
+times-over-held {b = b} k n t above fits h = within .over (within .times (known h) k) n .where-safe (times-over-safe b k n t above fits)
 
 -- Many tests at once.
 abbrev pub every : List Bool → Bool

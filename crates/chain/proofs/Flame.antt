@@ -20,7 +20,7 @@ use Rattle.chain.proofs.Bounds as B
 use Rattle.chain.proofs.Bounds.{Bound, bound, bounds, root-below}
 use Rattle.chain.proofs.Within.{Held, Within, within}
 use Rattle.chain.proofs.Steps.{diameter-kept, heat-release-kept, flame-height-kept, emissive-power-1-kept, emissive-power-2-kept, in-radii-kept}
-use Rattle.chain.proofs.Boxes.{box, in-box, known, below-last, passing, tests-passed, passed, constant-held, part-held, every, each}
+use Rattle.chain.proofs.Boxes.{box, in-box, known, below-last, passing, tests-passed, passed, constant-held, times-over-held, every, each}
 use Rattle.chain.proofs.Sweep.{sweep, swept, chosen}
 use Rattle.chain.proofs.Exponential.{spread, exp-bound, shallowest, deepest, burnt, Depth, unabsorbed}
 use Rattle.chain.proofs.Heat.{heat-width, heat-near}
@@ -146,7 +146,7 @@ hundred = lit< tt
 module _ (E : Enquiry) (F : Fuel E) (D : Bound) (hD : Held (diameter-of answers E) D) (safe : T (D .safe)) (below-50 : D .most ≤ 50 * U) where
   depth-held : Held (optical-depth answers (E .absorption) (diameter-of answers E)) (B.over (B.times D (E .absorption)) 100)
   unfolding optical-depth
-  depth-held = part-held (E .absorption) 100 safe hundred (omega (arith, mul-le-mul below-50 (F .most-absorption))) hD
+  depth-held = times-over-held (E .absorption) 100 safe hundred (omega (arith, mul-le-mul below-50 (F .most-absorption))) hD
 
   -- X, and that 1-X is at least what the least optical depth burns.
   pub unabsorbed-held : shallowest ≤ depth-from D → up (D .most * 500) 100 < deepest → D .width * 2_000_000_000 ≤ D .least → Held (unabsorbed-of answers E) exp-bound × ((unabsorbed-of answers E) .pair .high + burnt (depth-from D) ≤ U)

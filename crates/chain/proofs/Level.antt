@@ -16,11 +16,10 @@ use Rattle.pairs.specs.Series.{plus-terms, minus-terms, alternating, power, arc
 use Rattle.pairs.proofs.Agreement.{itself, agreed, agreement}
 use Rattle.chain.specs.declared.enquiry.Enquiry.{Enquiry}
 use Rattle.chain.specs.Chain.{in-radii, height-angle, vertical, horizontal, by-face, factor, vertical-above, horizontal-above, factor-at, emissive-power-of, relative-height-of, relative-elevation-of, relative-distance-of, configuration-factor-of, transmitted, clear-flux, radiant-flux}
-use Rattle.chain.specs.Flux.{low-of, high-of, note-of}
 use Rattle.chain.specs.Private.{Spaced, Prints}
 use Rattle.chain.proofs.Steps.{vertical-kept}
 use Rattle.chain.proofs.Configuration.{one-factor}
-use Rattle.chain.proofs.Haze.{flux-clear, printed-from}
+use Rattle.chain.proofs.Haze.{flux-clear, printed-of, printed-from}
 
 abbrev pub nothing : Pair
 nothing = ends 0 0
@@ -141,18 +140,15 @@ clear-level E level =
     elevation-0 : relative-elevation-of rounded E ≡ nothing
     elevation-0 = rw level (quotient-of-0 _)
 
--- Request 1: "Height 0 must print what it printed before.", through any haze.
+-- Request 1: "Height 0 must print what it printed before", here through any haze.
 pub printed-level :
-    (E : Enquiry) → E .height ≡ pos 0
-    → Prints (transmitted rounded (E .transmissivity) (level-flux E)) (E .method) (record { low = low-of E; high = high-of E; note = note-of E })
+    (E : Enquiry) → E .height ≡ pos 0 → Prints (transmitted rounded (E .transmissivity) (level-flux E)) (E .method) (printed-of E)
 unfolding radiant-flux
 printed-level E level = printed-from E _ (ap (transmitted rounded (E .transmissivity)) (clear-level E level))
 
--- And in clear air what was printed before there was haze.
-pub printed-level-clear :
-    (E : Enquiry) → E .height ≡ pos 0 → E .transmissivity ≡ 1000
-    → Prints (level-flux E) (E .method) (record { low = low-of E; high = high-of E; note = note-of E })
-printed-level-clear E level clear = printed-from E (level-flux E) (flux-clear E clear ∙ clear-level E level)
+-- In clear air it is what was printed before there was haze, too.
+pub printed-level-clear : (E : Enquiry) → E .height ≡ pos 0 → E .transmissivity ≡ 1000 → Prints (level-flux E) (E .method) (printed-of E)
+printed-level-clear E level at-1000 = printed-from E (level-flux E) (flux-clear E at-1000 ∙ clear-level E level)
 
 -- ---- what the code answers
 pub vertical-answer-of-0 : {e : Figures} → Spaced e → vertical answers (given nothing) e ≡ given nothing

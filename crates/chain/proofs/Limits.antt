@@ -7,7 +7,7 @@ use native.Mathlib.Nat.{le-trans}
 use native.Mathlib.Omega.{arith}
 use lib.Dec.{T, leb, leb→le, lit≤}
 use lib.IntN.{ℤ, pos, negsuc, natAbs}
-use Rattle.pairs.proofs.Agreement.{past-test}
+use Rattle.pairs.proofs.Tests.{past-test}
 use Rattle.chain.specs.declared.enquiry.Enquiry.{Enquiry}
 use Rattle.chain.specs.Flux.{Shown, outside, fuel-within, height-outside, flame-too-low, stage-too-large, low-of, high-of, note-of, flux-of}
 use Rattle.chain.specs.Private.{Limited}

@@ -139,7 +139,8 @@ module _ (A : Arithmetic) where
         | false ↦ by-face face (vertical-below l h e) (horizontal-below l h e)
       ]
 
-  -- Request 3: "The flux becomes (E·F) times that number over 1,000.": the transmissivity of the air, in thousandths.
+  -- Request 3: "The flux becomes (E·F) times that number over 1,000, and so does the exact chain at every depth." The number is the
+  -- transmissivity of the air, in thousandths.
   unfoldable pub transmitted : ℕ → A .Carrier → A .Carrier
   transmitted transmissivity clear = A .over (A .times clear transmissivity) 1000
 
@@ -181,10 +182,10 @@ module _ (A : Arithmetic) where
   configuration-factor-of E =
       factor-at (nonNeg (E .height)) (E .face) (relative-height-of E) (relative-elevation-of E) (relative-distance-of E)
 
-  -- 8. "q = E·F kW/m²." (A.1 in clear air)
+  -- 8. "q = E·F kW/m²." (A.1 in clear air): q until request 3.
   unfoldable pub clear-flux : Enquiry → A .Carrier
   clear-flux E = A .product (emissive-power-of E) (configuration-factor-of E)
 
-  -- Request 3: that flux by the transmissivity of the enquiry. (A.1)
+  -- Request 3: q is E·F times the transmissivity of the enquiry over 1,000. (A.1)
   unfoldable pub radiant-flux : Enquiry → A .Carrier
   radiant-flux E = transmitted (E .transmissivity) (clear-flux E)

@@ -50,14 +50,14 @@ fn too_low(diameter: Answer, height: Answer) -> bool
     up.low < d / 4 + (d % 4 + 3) / 4
 }
 
-// What the air lets through: times the transmissivity in thousandths, over 1,000.
+// What the air lets through of the flux in clear air: so many thousandths.
 fn transmitted(transmissivity: u64, clear: Answer) -> Answer
     ensures { λ r. ⌜ figures r ≡ chain.transmitted answers transmissivity (figures clear) ⌝ }
 {
     over_of(times_of(clear, transmissivity), 1_000)
 }
 
-// 8. q, which is E·F through the air.
+// 8. q, which is E·F times the transmissivity over 1,000.
 fn radiant_flux(e: Enquiry, diameter: Answer, heat: Answer, height: Answer) -> Answer
     requires { ⌜ figures diameter ≡ chain.diameter-of answers e ⌝ }
     requires { ⌜ figures heat ≡ chain.heat-release-of answers e ⌝ }

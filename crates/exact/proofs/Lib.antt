@@ -1,4 +1,4 @@
--- Order and roots of fractions; overlap kept by each operation; series; steps 1 to 8; demand 3.
+-- Order and roots of fractions; overlap kept by each operation; series; steps 1 to 8; clear air; demand 3.
 pub mod Order
 pub mod Root
 pub mod Overlap
@@ -13,6 +13,6 @@ pub mod LnTen
 pub mod Flame
 pub mod Factor
 pub mod Flux
-pub mod Clear
+pub mod Haze
 pub mod Demand3
 pub mod Answered

@@ -12,6 +12,7 @@ use Rattle.pairs.specs.Rounded.{U, rounded}
 use Rattle.pairs.specs.Figures.{Figures, given, refused, refuse, after}
 use Rattle.pairs.specs.Answers as A
 use Rattle.pairs.specs.Answers.{answers, admit, fitting}
+use Rattle.pairs.proofs.Tests.{past-test}
 use Rattle.pairs.proofs.Kept.{Kept}
 use Rattle.pairs.proofs.Ordered as O
 use Rattle.pairs.proofs.Ordered.{Ordered}
@@ -27,11 +28,6 @@ after-passed a f h = by-number (a .number) (a .pair) h
     by-number : (n : ℕ) (p : Pair) → (after (record { number = n; pair = p }) f) .number ≡ 0 → Passed (record { number = n; pair = p }) f
     by-number zero p e = record { first = refl; same = refl }
     by-number (suc n) p e = absurd (omega (arith, e))
-
--- What holds of a tested result and not of the refusal: the test failed, and it holds of what follows.
-pub past-test : {X : Type 0} (P : X → Type 0) (b : Bool) {refusal rest : X} → (P refusal → ⊥) → P (refuse b refusal rest) → (b ≡ false) × P rest
-past-test P true other h = absurd (other h)
-past-test P false other h = (refl, h)
 
 -- A refusal's test failed, and what follows stands.
 pub refuse-passed : (b : Bool) (n : ℕ) (f : Figures) → (refuse b (refused (suc n)) f) .number ≡ 0 → (T b → ⊥) × (refuse b (refused (suc n)) f ≡ f)

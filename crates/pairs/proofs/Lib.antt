@@ -4,6 +4,7 @@ pub mod Search
 pub mod FifthPower
 pub mod Ordered
 pub mod Kept
+pub mod Tests
 pub mod Agreement
 pub mod Running
 pub mod Turned

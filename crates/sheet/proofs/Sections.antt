@@ -11,7 +11,7 @@ use lib.ListN.{length}
 use lib.Dec.{leb, ltb}
 use borrow.Author.Tests.{ltb-false, leb-false, lt-ltb, le-ltb, lt-leb, le-leb}
 use Rattle.pairs.specs.Figures.{refuse}
-use Rattle.pairs.proofs.Agreement.{past-test}
+use Rattle.pairs.proofs.Tests.{past-test}
 use Rattle.sheet.specs.declared.reading.Fault.{Fault}
 use Rattle.sheet.specs.declared.reading.Fault.the-variants.{CutShort, TooMany}
 use Rattle.sheet.specs.declared.reading.Reading.the-variants.{Refused}

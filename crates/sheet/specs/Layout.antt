@@ -35,7 +35,7 @@ abbrev pub method-offset : ℕ
 method-offset = 6
 
 -- "Target: pool index in 2, d in 4, face in 1." Request 1: "A target gains a signed height above the flame's base, 4 bytes in two's
--- complement after the face." Request 3: "Each target carries it in thousandths, 2 bytes after the height".
+-- complement after the face." Request 3, of the transmissivity: "Each target carries it in thousandths, 2 bytes after the height".
 abbrev pub target-size : ℕ
 target-size = 13
 

@@ -8,7 +8,8 @@ use Rattle.sheet.specs.Bytes.{one, two, four, four-signed}
 use Rattle.sheet.specs.Reading.{fuels-of, pools-of, fuel-index, pool-index}
 
 -- "Fuel: m, k, c, 2 bytes each. Pool: a in 4, fuel index in 2, method in 1. Target: pool index in 2, d in 4, face in 1."
--- Request 1: "a signed height .., 4 bytes in two's complement after the face". Request 3: "2 bytes after the height".
+-- Request 1: "a signed height .., 4 bytes in two's complement after the face". Request 3: the transmissivity,
+-- "2 bytes after the height".
 unfoldable pub enquiry-at : List ℕ → ℕ → ℕ → ℕ → Enquiry
 enquiry-at s fuel pool target =
     record {

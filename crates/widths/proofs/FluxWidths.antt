@@ -25,7 +25,7 @@ use Rattle.chain.proofs.Boxes.{known, every, each, either}
 use Rattle.chain.proofs.Flame.{emissive-bound-1, emissive-bound-2}
 use Rattle.chain.proofs.Limits.{Tested, between, transmissivity}
 use Rattle.chain.proofs.Accepted as chain
-use Rattle.chain.proofs.Haze.{transmitted-near}
+use Rattle.chain.proofs.Haze.{hazy-near}
 use Rattle.chain.proofs.Level.{clear-level}
 use Rattle.widths.proofs.FactorWidths.{Placement, level-bound, above-bound, below-bound, level-within, above-within, below-within}
 
@@ -34,22 +34,22 @@ unfoldable pub emissive-bound : ℕ → Bound
 emissive-bound method = elim (eqb method 1) [ true ↦ emissive-bound-1 | false ↦ emissive-bound-2 ]
 
 -- From a bound of the factor, in trillionths of a kW/m².
-unfoldable pub flux-bound : ℕ → Bound → Bound
-flux-bound method F = B.product (emissive-bound method) F
+unfoldable pub clear-bound : ℕ → Bound → Bound
+clear-bound method F = B.product (emissive-bound method) F
 
 -- How wide E·F is at most, in trillionths of a kW/m², by method and face: at any height, and level with the base.
 unfoldable pub width-of : ℕ → ℕ → ℕ
-width-of method face = max ((flux-bound method (above-bound face)) .width) ((flux-bound method (below-bound face)) .width)
+width-of method face = max ((clear-bound method (above-bound face)) .width) ((clear-bound method (below-bound face)) .width)
 
 unfoldable pub level-width-of : ℕ → ℕ → ℕ
-level-width-of method face = (flux-bound method (level-bound face)) .width
+level-width-of method face = (clear-bound method (level-bound face)) .width
 
 pub widths : (width-of 1 1 ≡ 1_669_700_001) × (width-of 1 2 ≡ 1_117_500_001) × (width-of 1 3 ≡ 1_669_700_001) × (width-of 2 1 ≡ 5_702_500_001) × (width-of 2 2 ≡ 3_634_700_001) × (width-of 2 3 ≡ 5_702_500_001)
-unfolding width-of flux-bound emissive-bound above-bound below-bound by-face B.product B.sum B.difference B.larger bound up
+unfolding width-of clear-bound emissive-bound above-bound below-bound by-face B.product B.sum B.difference B.larger bound up
 widths = (refl, refl, refl, refl, refl, refl)
 
 pub level-widths : (level-width-of 1 1 ≡ 190_100_001) × (level-width-of 1 2 ≡ 165_600_001) × (level-width-of 1 3 ≡ 190_100_001) × (level-width-of 2 1 ≡ 668_500_001) × (level-width-of 2 2 ≡ 545_200_001) × (level-width-of 2 3 ≡ 668_500_001)
-unfolding level-width-of flux-bound emissive-bound level-bound by-face B.product B.larger bound up
+unfolding level-width-of clear-bound emissive-bound level-bound by-face B.product B.larger bound up
 level-widths = (refl, refl, refl, refl, refl, refl)
 
 -- ---- whatever the method, the face and the height, E·F is not refused
@@ -60,29 +60,29 @@ face-tests F rest = (B.product emissive-bound-1 F) .safe ∷ (B.product emissive
 abbrev flux-tests : Bound → Bound → List Bool
 flux-tests upright level = face-tests upright (face-tests level (face-tests (B.larger upright level) []))
 
-by-method : (method : ℕ) (F : Bound) → T ((B.product emissive-bound-1 F) .safe) → T ((B.product emissive-bound-2 F) .safe) → T ((flux-bound method F) .safe)
-unfolding flux-bound emissive-bound
+by-method : (method : ℕ) (F : Bound) → T ((B.product emissive-bound-1 F) .safe) → T ((B.product emissive-bound-2 F) .safe) → T ((clear-bound method F) .safe)
+unfolding clear-bound emissive-bound
 by-method method F s t = either (λ b. T ((B.product b F) .safe)) (eqb method 1) s t
 
-by-method-and-face : (upright level : Bound) → T (every (flux-tests upright level)) → (method face : ℕ) → T ((flux-bound method (by-face bounds face upright level)) .safe)
+by-method-and-face : (upright level : Bound) → T (every (flux-tests upright level)) → (method face : ℕ) → T ((clear-bound method (by-face bounds face upright level)) .safe)
 unfolding by-face
 by-method-and-face upright level t method face =
     let c = each (flux-tests upright level) t in
     let c₂ = c .1 .1 in
     let c₄ = c₂ .1 .1 in
-    either (λ b. T ((flux-bound method b) .safe)) (eqb face 1) (by-method method upright (c .0) (c .1 .0))
-    (either (λ b. T ((flux-bound method b) .safe)) (eqb face 2) (by-method method level (c₂ .0) (c₂ .1 .0))
+    either (λ b. T ((clear-bound method b) .safe)) (eqb face 1) (by-method method upright (c .0) (c .1 .0))
+    (either (λ b. T ((clear-bound method b) .safe)) (eqb face 2) (by-method method level (c₂ .0) (c₂ .1 .0))
     (by-method method (B.larger upright level) (c₄ .0) (c₄ .1 .0)))
 
-above-safe : (method face : ℕ) → T ((flux-bound method (above-bound face)) .safe)
+above-safe : (method face : ℕ) → T ((clear-bound method (above-bound face)) .safe)
 unfolding above-bound B.product B.sum B.difference B.larger bound up down
 above-safe = by-method-and-face _ _ tt
 
-below-safe : (method face : ℕ) → T ((flux-bound method (below-bound face)) .safe)
+below-safe : (method face : ℕ) → T ((clear-bound method (below-bound face)) .safe)
 unfolding below-bound B.product B.difference B.larger bound up down
 below-safe = by-method-and-face _ _ tt
 
-level-safe : (method face : ℕ) → T ((flux-bound method (level-bound face)) .safe)
+level-safe : (method face : ℕ) → T ((clear-bound method (level-bound face)) .safe)
 unfolding level-bound B.product B.larger bound up down
 level-safe = by-method-and-face _ _ tt
 
@@ -112,31 +112,25 @@ module _ (E : Enquiry) (t : Tested E) where
   unfolding emissive-power-of emissive-power emissive-bound
   power-held = let s = chain.bounded E t in choice-kept Held (eqb (E .method) 1) (s .power-1) (s .power-2)
 
-  at-height : (from-the-base-up : Bool) → Held (answers .product (emissive-power-of answers E) (factor-at answers from-the-base-up (E .face) (relative-height-of answers E) (relative-elevation-of answers E) (relative-distance-of answers E))) (flux-bound (E .method) (height-bound from-the-base-up (E .face)))
-  unfolding flux-bound
+  at-height : (from-the-base-up : Bool) → Held (answers .product (emissive-power-of answers E) (factor-at answers from-the-base-up (E .face) (relative-height-of answers E) (relative-elevation-of answers E) (relative-distance-of answers E))) (clear-bound (E .method) (height-bound from-the-base-up (E .face)))
+  unfolding clear-bound
   at-height true = within .product (known power-held) (above-within placement (E .face)) .where-safe (above-safe (E .method) (E .face))
   at-height false = within .product (known power-held) (below-within placement (E .face)) .where-safe (below-safe (E .method) (E .face))
 
-  within-width : (from-the-base-up : Bool) → (flux-bound (E .method) (height-bound from-the-base-up (E .face))) .width ≤ width-of (E .method) (E .face)
+  within-width : (from-the-base-up : Bool) → (clear-bound (E .method) (height-bound from-the-base-up (E .face))) .width ≤ width-of (E .method) (E .face)
   unfolding width-of
   within-width true = le-max-left _ _
   within-width false = le-max-right _ _
-
-  hazy-near :
-      (w : ℕ) → (clear-flux rounded E) .high ≤ (clear-flux rounded E) .low + w
-      → (radiant-flux rounded E) .high ≤ (radiant-flux rounded E) .low + (w + 1)
-  unfolding radiant-flux
-  hazy-near = transmitted-near (clear-flux rounded E) (transmissivity E (t .limited))
 
   pub flux-near : (radiant-flux rounded E) .high ≤ (radiant-flux rounded E) .low + (width-of (E .method) (E .face) + 1)
   unfolding clear-flux configuration-factor-of
   flux-near =
       let w = width-of (E .method) (E .face) in
       let h = at-height (nonNeg (E .height)) in
-      hazy-near w (near-of w (clear-flux-kept agreement E .same (h .given)) h (within-width (nonNeg (E .height))))
+      hazy-near E (transmissivity E (t .limited)) w (near-of w (clear-flux-kept agreement E .same (h .given)) h (within-width (nonNeg (E .height))))
 
-  level-held : Held (answers .product (emissive-power-of answers E) (factor answers (E .face) (relative-height-of answers E) (relative-distance-of answers E))) (flux-bound (E .method) (level-bound (E .face)))
-  unfolding flux-bound
+  level-held : Held (answers .product (emissive-power-of answers E) (factor answers (E .face) (relative-height-of answers E) (relative-distance-of answers E))) (clear-bound (E .method) (level-bound (E .face)))
+  unfolding clear-bound
   level-held = within .product (known power-held) (level-within placement (E .face)) .where-safe (level-safe (E .method) (E .face))
 
   pub level-near : E .height ≡ pos 0 → (radiant-flux rounded E) .high ≤ (radiant-flux rounded E) .low + (level-width-of (E .method) (E .face) + 1)
@@ -144,4 +138,4 @@ module _ (E : Enquiry) (t : Tested E) where
   level-near level =
       let K = agreement .product (emissive-power-of-kept agreement E) (factor-kept agreement (E .face) (relative-height-of-kept agreement E) (relative-distance-of-kept agreement E)) in
       let w = level-width-of (E .method) (E .face) in
-      hazy-near w (rw (clear-level E level) (near-of w (K .same (level-held .given)) level-held (le-refl w)))
+      hazy-near E (transmissivity E (t .limited)) w (rw (clear-level E level) (near-of w (K .same (level-held .given)) level-held (le-refl w)))

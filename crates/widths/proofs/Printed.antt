@@ -13,7 +13,7 @@ use Rattle.chain.proofs.Limits.{between, accepted-tested}
 use Rattle.chain.proofs.Accepted.{accepted, shown}
 use Rattle.widths.specs.Narrow.{at-any-height, at-height-0, Widths}
 use Rattle.widths.proofs.FactorWidths.{level-bound, above-bound, below-bound}
-use Rattle.widths.proofs.FluxWidths.{emissive-bound, flux-bound, width-of, level-width-of, flux-near, level-near}
+use Rattle.widths.proofs.FluxWidths.{emissive-bound, clear-bound, width-of, level-width-of, flux-near, level-near}
 
 -- Low and high of a q that is so many trillionths of a kW/m² wide.
 unfoldable printed : ℕ → ℕ
@@ -39,7 +39,7 @@ abbrev Any-height : ℕ → ℕ → Type 0
 Any-height method face = printed (width-of method face + 1) ≤ at-any-height method face
 
 any-height : (method face : ℕ) → 1 ≤ method → method ≤ 2 → 1 ≤ face → face ≤ 3 → Any-height method face
-unfolding at-any-height printed width-of flux-bound emissive-bound above-bound below-bound by-face B.product B.sum B.difference B.larger bound up
+unfolding at-any-height printed width-of clear-bound emissive-bound above-bound below-bound by-face B.product B.sum B.difference B.larger bound up
 any-height method face l h =
     of-three (λ m. (f : ℕ) → 1 ≤ f → f ≤ 3 → Any-height m f) (of-three (Any-height 1) (lit≤ tt) (lit≤ tt) (lit≤ tt))
     (of-three (Any-height 2) (lit≤ tt) (lit≤ tt) (lit≤ tt)) (of-three (Any-height 3) (lit≤ tt) (lit≤ tt) (lit≤ tt)) method l (omega arith) face
@@ -48,7 +48,7 @@ abbrev Level : ℕ → ℕ → Type 0
 Level method face = printed (level-width-of method face + 1) ≤ at-height-0
 
 level : (method face : ℕ) → 1 ≤ method → method ≤ 2 → 1 ≤ face → face ≤ 3 → Level method face
-unfolding printed level-width-of flux-bound emissive-bound level-bound by-face B.product B.larger bound up
+unfolding printed level-width-of clear-bound emissive-bound level-bound by-face B.product B.larger bound up
 level method face l h =
     of-three (λ m. (f : ℕ) → 1 ≤ f → f ≤ 3 → Level m f) (of-three (Level 1) (lit≤ tt) (lit≤ tt) (lit≤ tt))
     (of-three (Level 2) (lit≤ tt) (lit≤ tt) (lit≤ tt)) (of-three (Level 3) (lit≤ tt) (lit≤ tt) (lit≤ tt)) method l (omega arith) face
