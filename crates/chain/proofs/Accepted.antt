@@ -3,10 +3,11 @@
 -- pairs. Assumes nothing.
 use mathlib.Core.Path.{_≡_, subst, ap}
 use mathlib.Core.Bool.{true, false, not}
-use Prim.Native.Nat.{ℕ, suc, _*_, _≤_}
-use native.Mathlib.Nat.{lt-of-not-le, le-of-suc-le-suc, le-trans, mul-le-mul-left}
+use Prim.Native.Nat.{_*_, _≤_}
+use native.Mathlib.Nat.{le-trans, mul-le-mul-left}
 use native.Mathlib.Omega.{arith}
-use lib.Dec.{T, ltb, eqb, le→leb, lit<}
+use lib.Dec.{eqb, lit<}
+use borrow.Author.Tests.{ltb-false}
 use lib.IntN.{natAbs}
 use lib.Signed.{nonNeg}
 use Rattle.pairs.specs.Rounded.{U, rounded, up, down}
@@ -50,13 +51,10 @@ within-limits-not-refused E f a =
     }
 
 -- ---- where no number from 11 to 16 applies, nor 18 or 19
-not-less : (m n : ℕ) → ltb m n ≡ false → n ≤ m
-not-less m n e = le-of-suc-le-suc (lt-of-not-le (λ h. subst T e (le→leb (suc m) n h)))
-
 pub high-enough : (E : Enquiry) → Unrefused E → flame-too-low E ≡ false → (diameter-of answers E) .pair .high ≤ 4 * (flame-height-of answers E) .pair .low
 unfolding flame-too-low
 high-enough E h e =
-    rw (h .diameter-given, h .flame-height-given) (not-less (4 * (flame-height-of rounded E) .low) ((diameter-of rounded E) .high) e)
+    rw (h .diameter-given, h .flame-height-given) (ltb-false (4 * (flame-height-of rounded E) .low) ((diameter-of rounded E) .high) e)
 
 -- What the sweeps say of E, l, h and e.
 pub record Bounded (E : Enquiry) : Type 0 where

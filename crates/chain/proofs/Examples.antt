@@ -1,12 +1,13 @@
 -- An accepted enquiry for each method, face, height and transmissivity: the pool of ISO 24678-7, A.8, so that nothing is said of no
 -- enquiry at all. Its flame height and diameter are bounded by computation, without a search for a root. Assumes nothing.
 use mathlib.Core.Path.{_≡_, refl, ap}
-use mathlib.Core.Bool.{Bool, true, false, _&&_, not}
+use mathlib.Core.Bool.{false, _&&_, not}
 use Prim.Native.Nat.{ℕ, _*_, _≤_}
-use native.Mathlib.Nat.{le-trans, mul-le-mul-left, not-le-of-lt}
+use native.Mathlib.Nat.{le-trans, mul-le-mul-left}
 use lib.IntN.{ℤ, pos, negsuc}
-use lib.Dec.{T, leb, ltb, leb→le, ltb→lt}
+use lib.Dec.{T, leb, leb→le}
 use lib.Ieee.Fits.{and-l, and-r}
+use borrow.Author.Tests.{le-ltb}
 use Rattle.pairs.specs.Rounded.{rounded}
 use Rattle.pairs.specs.Answers.{answers}
 use Rattle.chain.specs.declared.enquiry.Enquiry.{Enquiry}
@@ -33,13 +34,6 @@ example method face height transmissivity =
       transmissivity = transmissivity;
     }
 
-less-fails : (m n : ℕ) → n ≤ m → ltb m n ≡ false
-less-fails m n h = by-test (ltb m n) (λ t. not-le-of-lt (ltb→lt m n t) h)
-  where
-    by-test : (b : Bool) → (T b → ⊥) → b ≡ false
-    by-test true k = absurd (k tt)
-    by-test false k = refl
-
 module _ (method face : ℕ) (height : ℤ) (transmissivity : ℕ) where
   abbrev E : Enquiry
   E = example method face height transmissivity
@@ -63,7 +57,7 @@ module _ (method face : ℕ) (height : ℤ) (transmissivity : ℕ) where
       let tall = leb→le (D .most) (4 * L .least) (and-r (D .safe && L .safe) (leb (D .most) (4 * L .least)) t) in
       let same = within-limits-not-refused E fuel-fits refl in
       let high : (diameter-of answers E) .pair .high ≤ 4 * (flame-height-of answers E) .pair .low = le-trans (d .inside .high) (le-trans tall (mul-le-mul-left 4 (l .inside .low))) in
-      less-fails (4 * (flame-height-of rounded E) .low) ((diameter-of rounded E) .high) (rw (same .diameter-given, same .flame-height-given) at high)
+      le-ltb (4 * (flame-height-of rounded E) .low) ((diameter-of rounded E) .high) (rw (same .diameter-given, same .flame-height-given) at high)
 
   module _ (m : outside 1 2 method ≡ false) (f : outside 1 3 face ≡ false) (h : height-outside height ≡ false) (t : outside 1 1_000 transmissivity ≡ false) where
     example-tested : Tested E

@@ -1,10 +1,10 @@
 -- A bracket is sound when every divisor on the way to it was above 0 and its low end is at most its high end. Each operation
 -- keeps that, a quotient where its divisor's low end is above 0. Each end grows or falls with its arguments. Assumes nothing.
 use mathlib.Core.Path.{_≡_, refl}
-use mathlib.Core.Bool.{Bool, true, false, _&&_}
+use mathlib.Core.Bool.{Bool, true, _&&_}
 use Prim.Native.Nat.{ℕ, zero, suc, _<_}
 use native.Mathlib.Nat.{le-refl}
-use lib.Dec.{T, ltb, lt→ltb}
+use borrow.Author.Tests.{lt-ltb}
 use Rattle.exact.specs.Fraction.{Fraction, _⊑_, above-0, whole, _⊕_, _⊗_, _⊘_}
 use Rattle.exact.specs.Depth.{Bracket, divides, constant, sum, difference, product, quotient, times, over, root, larger, high-only}
 use Rattle.exact.proofs.Order.{_⟫_, ⊑-refl, ⊕-mono, ⊖-mono, ⊗-mono, ⊘-mono, 0-least, over-mono, above-from, power-cancel, larger-left, larger-right, larger-least}
@@ -20,20 +20,13 @@ Positive x = zero < x .low .num
 and-true : {a b : Bool} → a ≡ true → b ≡ true → (a && b) ≡ true
 and-true h k = rw h k
 
-passed : (b : Bool) → T b → b ≡ true
-passed true t = refl
-passed false t = absurd t
-
-above : (n : ℕ) → zero < n → ltb 0 n ≡ true
-above n p = passed (ltb 0 n) (lt→ltb 0 n p)
-
 divides-by : (y : Bracket) → Positive y → y .low ⊑ y .high → divides y ≡ true
 unfolding divides above-0
-divides-by y p h = and-true (above (y .low .num) p) (above (y .high .num) (above-from p h))
+divides-by y p h = and-true (lt-ltb 0 (y .low .num) p) (lt-ltb 0 (y .high .num) (above-from p h))
 
 pub constant-sound : (n d : ℕ) → zero < d → Sound (constant n d)
 unfolding constant
-constant-sound n d p = record { defined = above d p; ordered = ⊑-refl }
+constant-sound n d p = record { defined = lt-ltb 0 d p; ordered = ⊑-refl }
 
 pub sum-sound : {x y : Bracket} → Sound x → Sound y → Sound (sum x y)
 unfolding sum
@@ -62,7 +55,7 @@ times-sound n h = record { defined = h .defined; ordered = ⊗-mono (h .ordered)
 pub over-sound : (n : ℕ) → zero < n → {x : Bracket} → Sound x → Sound (over x n)
 unfolding over
 over-sound n p h =
-    record { defined = and-true (h .defined) (above n p); ordered = over-mono n n p (le-refl n) (h .ordered) }
+    record { defined = and-true (h .defined) (lt-ltb 0 n p); ordered = over-mono n n p (le-refl n) (h .ordered) }
 
 pub root-sound : (k n : ℕ) {x : Bracket} → Sound x → Sound (root (suc k) n x)
 unfolding root

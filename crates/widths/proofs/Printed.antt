@@ -35,23 +35,24 @@ of-three P a b c (suc (suc zero)) l h = b
 of-three P a b c (suc (suc (suc zero))) l h = c
 of-three P a b c (suc (suc (suc (suc n)))) l h = absurd (omega arith)
 
-abbrev Any-height : ℕ → ℕ → Type 0
-Any-height method face = printed (width-of method face + 1) ≤ at-any-height method face
+-- What holds for each method and face.
+each-case :
+    (P : ℕ → ℕ → Type 0) → P 1 1 → P 1 2 → P 1 3 → P 2 1 → P 2 2 → P 2 3
+    → (method face : ℕ) → 1 ≤ method → method ≤ 2 → 1 ≤ face → face ≤ 3 → P method face
+each-case P a b c d e f zero face l h least most = absurd (omega arith)
+each-case P a b c d e f (suc zero) face l h least most = of-three (P 1) a b c face least most
+each-case P a b c d e f (suc (suc zero)) face l h least most = of-three (P 2) d e f face least most
+each-case P a b c d e f (suc (suc (suc m))) face l h least most = absurd (omega arith)
 
-any-height : (method face : ℕ) → 1 ≤ method → method ≤ 2 → 1 ≤ face → face ≤ 3 → Any-height method face
+any-height : (method face : ℕ) → 1 ≤ method → method ≤ 2 → 1 ≤ face → face ≤ 3 → printed (width-of method face + 1) ≤ at-any-height method face
 unfolding at-any-height printed width-of clear-bound emissive-bound above-bound below-bound by-face B.product B.sum B.difference B.larger bound up
-any-height method face l h =
-    of-three (λ m. (f : ℕ) → 1 ≤ f → f ≤ 3 → Any-height m f) (of-three (Any-height 1) (lit≤ tt) (lit≤ tt) (lit≤ tt))
-    (of-three (Any-height 2) (lit≤ tt) (lit≤ tt) (lit≤ tt)) (of-three (Any-height 3) (lit≤ tt) (lit≤ tt) (lit≤ tt)) method l (omega arith) face
+any-height =
+    each-case (λ method face. printed (width-of method face + 1) ≤ at-any-height method face) (lit≤ tt) (lit≤ tt) (lit≤ tt) (lit≤ tt) (lit≤ tt) (lit≤ tt)
 
-abbrev Level : ℕ → ℕ → Type 0
-Level method face = printed (level-width-of method face + 1) ≤ at-height-0
-
-level : (method face : ℕ) → 1 ≤ method → method ≤ 2 → 1 ≤ face → face ≤ 3 → Level method face
+level : (method face : ℕ) → 1 ≤ method → method ≤ 2 → 1 ≤ face → face ≤ 3 → printed (level-width-of method face + 1) ≤ at-height-0
 unfolding printed level-width-of clear-bound emissive-bound level-bound by-face B.product B.larger bound up
-level method face l h =
-    of-three (λ m. (f : ℕ) → 1 ≤ f → f ≤ 3 → Level m f) (of-three (Level 1) (lit≤ tt) (lit≤ tt) (lit≤ tt))
-    (of-three (Level 2) (lit≤ tt) (lit≤ tt) (lit≤ tt)) (of-three (Level 3) (lit≤ tt) (lit≤ tt) (lit≤ tt)) method l (omega arith) face
+level =
+    each-case (λ method face. printed (level-width-of method face + 1) ≤ at-height-0) (lit≤ tt) (lit≤ tt) (lit≤ tt) (lit≤ tt) (lit≤ tt) (lit≤ tt)
 
 pub widths : Widths
 unfolding low-of high-of

@@ -1,8 +1,8 @@
 -- `is_zero` meets its contract: both ends are compared with 0.
 -- Assumes nothing.
-use mathlib.Core.Path.{_≡_, sym, ap, subst, _∙_}
-use mathlib.Core.Bool.{true, false}
-use lib.Dec.{T, eqb}
+use mathlib.Core.Path.{_≡_, ap, _∙_}
+use mathlib.Core.Bool.{false≢true}
+use lib.Dec.{eqb}
 use borrow.Author.Tests.{eqb-true}
 use Rattle.pairs.specs.declared.answer.Pair.{Pair}
 use Rattle.pairs.specs.declared.answer.Answer.{Answer}
@@ -17,14 +17,11 @@ use Rattle.chain.proofs.factor.is_zero.Tie as tie
 zero-ends : (a : Answer) (p : Pair) → a ≡ Is p → p .low ≡ 0 → p .high ≡ 0 → figures a ≡ given (ends 0 0)
 zero-ends a p e l h = ap figures e ∙ (λ i. given (ends (l i) (h i)))
 
-never : {X : Type 0} → false ≡ true → X
-never e = absurd (subst T (sym e) tt)
-
 enum-known-a : tie.Need-enum-known-a
 enum-known-a c = search needs
 
 returns : tie.Need-returns
-returns c = (λ e. never e, λ f. absurd (never-refused (c .before .args .a) _ f (c .match .keys2)))
+returns c = (λ e. absurd (false≢true e), λ f. absurd (never-refused (c .before .args .a) _ f (c .match .keys2)))
 
 returns-2 : tie.Need-returns-2
 returns-2 c = let is = c .before .before .before .before .a .given .1 in (
@@ -33,7 +30,7 @@ returns-2 c = let is = c .before .before .before .before .a .given .1 in (
 )
 
 returns-3 : tie.Need-returns-3
-returns-3 c = (λ e. never e, λ f. absurd (c .if1 .left (ap (λ (p : Pair). p .low) (pair-given _ _ _ f (c .before .before .before .a .given .1)))))
+returns-3 c = (λ e. absurd (false≢true e), λ f. absurd (c .if1 .left (ap (λ (p : Pair). p .low) (pair-given _ _ _ f (c .before .before .before .a .given .1)))))
 
 pub is-zero-spec : {M : Type 1} → statement M
 is-zero-spec = tie.close (tie.spec enum-known-a returns returns-2 returns-3)

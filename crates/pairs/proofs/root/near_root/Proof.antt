@@ -1,6 +1,5 @@
 -- `near_root` meets its contract: a starting number is between 2^12 and 2^13, and the two steps keep the bits of the root.
 -- Assumes nothing.
-use Prim.Native.Nat.{_-_}
 use native.Mathlib.Omega.{arith}
 use Rattle.pairs.proofs.root.Scaling.{Steps, steps}
 use borrow.Author.Needs.{needs}

@@ -1,6 +1,6 @@
 -- `start` meets its contract: the word that is scaled is not 0, and the shifts stay within a word.
 -- Assumes nothing.
-use Prim.Native.Nat.{_-_, _/_}
+use Prim.Native.Nat.{_/_}
 use native.Mathlib.Omega.{arith}
 use lib.Count.{leadingZeros, leading-le}
 use lib.Pow.{shr-le}
