@@ -27,7 +27,7 @@ ghost use Rattle.pairs.specs.Rounded.{U};
 ghost use Rattle.pairs.specs.Figures.{figures};
 ghost use Rattle.pairs.specs.Answers.{answers};
 ghost use Rattle.chain.specs.Chain as chain;
-ghost use Rattle.chain.specs.Flux.{flux-of, shown};
+ghost use Rattle.chain.specs.Flux.{flux-of, number-of, shown};
 ghost use Rattle.chain.specs.Private.{Limited, Prints};
 
 // The pair of an answer, [0, 0] of a refusal.
@@ -114,6 +114,23 @@ fn flux_within(e: Enquiry) -> Flux
         return Flux::Refused(Turned::TooLarge);
     };
     Flux::Is(printed(q, method))
+}
+
+// The number of a refusal, in "One flux" and requests 1 and 3.
+pub fn number(why: Turned) -> u8
+    ensures { λ r. ⌜ r ≡ number-of why ⌝ }
+{
+    match why {
+        Turned::Fuel => 11,
+        Turned::Area => 12,
+        Turned::Method => 13,
+        Turned::Distance => 14,
+        Turned::Face => 15,
+        Turned::Height => 18,
+        Turned::Transmissivity => 19,
+        Turned::LowFlame => 16,
+        Turned::TooLarge => 17,
+    }
 }
 
 // The radiant flux at a target.

@@ -9,27 +9,12 @@ use call::called;
 use chain::enquiry::Factor;
 use chain::enquiry::Flux;
 use chain::enquiry::Outside;
-use chain::enquiry::Turned;
+use chain::flux::number;
 use libc::STDIN_FILENO;
 use libc::STDOUT_FILENO;
 use line::numbers_in;
 use line::place_of;
 use pairs::answer::Answer;
-
-// 11 to 17 of document 01, 18 of request 1 and 19 of request 3.
-fn turned_number(why: Turned) -> u64 {
-    match why {
-        Turned::Fuel => 11,
-        Turned::Area => 12,
-        Turned::Method => 13,
-        Turned::Distance => 14,
-        Turned::Face => 15,
-        Turned::Height => 18,
-        Turned::Transmissivity => 19,
-        Turned::LowFlame => 16,
-        Turned::TooLarge => 17,
-    }
-}
 
 // 21 to 23 of document 01.
 fn outside_number(why: Outside) -> u64 {
@@ -76,7 +61,7 @@ fn print_flux(f: Flux) {
             print_after_blank(p.note as u64);
         }
         Flux::Refused(why) => {
-            print_pair(turned_number(why), 0, 0);
+            print_pair(number(why) as u64, 0, 0);
             print_after_blank(0);
         }
     }

@@ -40,7 +40,7 @@ module _ (s t : List ℕ) (at to size : ℕ) (e : cut s at size ≡ cut t to siz
   same-byte k h =
       sym (getD-drop at s k 0) ∙ sym (getD-take size (drop at s) k 0 h) ∙ ap (λ (x : List ℕ). getD x k 0) e ∙ getD-take size (drop to t) k 0 h ∙ getD-drop to t k 0
 
-  same-one : (k : ℕ) → k < size → one s (at + k) ≡ one t (to + k)
+  pub same-one : (k : ℕ) → k < size → one s (at + k) ≡ one t (to + k)
   unfolding one
   same-one k h = same-byte k h
 
@@ -48,7 +48,7 @@ module _ (s t : List ℕ) (at to size : ℕ) (e : cut s at size ≡ cut t to siz
   unfolding two
   same-two k h = cc (add-assoc at k 1, add-assoc to k 1, same-byte k (omega arith), same-byte (k + 1) (omega arith))
 
-  same-four : (k : ℕ) → k + 4 ≤ size → four s (at + k) ≡ four t (to + k)
+  pub same-four : (k : ℕ) → k + 4 ≤ size → four s (at + k) ≡ four t (to + k)
   unfolding four
   same-four k h = cc (add-assoc at k 2, add-assoc to k 2, same-two k (omega arith), same-two (k + 2) (omega arith))
 
@@ -86,7 +86,7 @@ unfolding shown-of enquiry-of entry-bytes pool-bytes fuel-bytes
 same-shown s t i j e p f = ap flux-of (same-enquiry s t _ _ _ _ _ _ f p e)
 
 -- The ten bytes of target i among those of all targets.
-own-place : (s : List ℕ) (n i : ℕ) (rest : List ℕ) → i < n → cut (answers s n ++ rest) (answer-size * i) answer-size ≡ ten-bytes (shown-of s i)
+pub own-place : (s : List ℕ) (n i : ℕ) (rest : List ℕ) → i < n → cut (answers s n ++ rest) (answer-size * i) answer-size ≡ ten-bytes (shown-of s i)
 unfolding answers cut
 own-place s zero i rest h = absurd (omega arith)
 own-place s (suc n) i rest h =

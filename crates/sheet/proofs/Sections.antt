@@ -155,6 +155,37 @@ sound s o e z =
       pool-there = rw (← g, ← t) (λ i h. leb-false (pools-of s) (pool-index s i) (some-false (λ j. leb (pools-of s) (pool-index s j)) (targets-of s) (r .0) i h));
     }
 
+-- A refused sheet has no target, and no sheet has more than the most.
+by-test : (P : Outcome → Type 0) (b : Bool) {x y : Outcome} → P x → P y → P (refuse b x y)
+by-test P true h k = h
+by-test P false h k = k
+
+abbrev None : Outcome → Type 0
+None o = (n : ℕ) → o .state ≡ suc n → o .targets ≡ 0
+
+section-none : (s : List ℕ) (start size most : ℕ) (rest : Outcome) → None rest → None (reading.section s start size most rest)
+unfolding reading.section
+section-none s start size most rest h =
+    by-test None (ltb (length s) (start + count-size)) (λ n e. refl)
+    (by-test None (ltb most (two s start)) (λ n e. refl)
+    (by-test None (ltb (length s) (start + count-size + size * two s start)) (λ n e. refl) h))
+
+pub refused-none : (s : List ℕ) → None (reading-of s)
+unfolding reading-of from-pools from-targets after-sections
+refused-none s =
+    section-none s 0 fuel-size most-fuels (from-pools s)
+    (section-none s (pools-start (fuels-of s)) pool-size most-pools (from-targets s)
+    (section-none s (targets-start (fuels-of s) (pools-of s)) target-size most-targets (after-sections s)
+    (by-test None (ltb (sheet-end (fuels-of s) (pools-of s) (targets-of s)) (length s)) (λ n e. refl)
+    (by-test None (no-fuel s) (λ n e. refl) (by-test None (no-pool s) (λ n e. refl) (λ n e. absurd (omega arith)))))))
+
+pub few-targets : (s : List ℕ) → reading-of s .targets ≤ most-targets
+few-targets s = by-state (reading-of s .state) refl
+  where
+    by-state : (n : ℕ) → reading-of s .state ≡ n → reading-of s .targets ≤ most-targets
+    by-state zero e = sound s (reading-of s) refl e .few
+    by-state (suc n) e = rw (refused-none s n e) (omega arith)
+
 -- What follows the three sections, test by test, of the counts that the bytes hold.
 module _ (s : List ℕ) (f p t : ℕ) (fuels-are : f ≡ fuels-of s) (pools-are : p ≡ pools-of s) (targets-are : t ≡ targets-of s) where
   fuels-tested : stray s (pools-start f + count-size + fuel-index-offset) pool-size p f ≡ no-fuel s

@@ -43,7 +43,7 @@ abbrev pub shown-by : Entry → Shown
 shown-by e = record { state = e .state; low = e .low; high = e .high; note = e .note }
 
 -- d with vs in the place of what stood from `at` on.
-unfoldable pub pasted : List ℕ → ℕ → List ℕ → List ℕ
+unfoldable pub pasted : {A : Type 0} → List A → ℕ → List A → List A
 pasted d at vs = take at d ++ (vs ++ drop (at + length vs) d)
 
 -- vs was written at `at`, and `next` is the place after it.

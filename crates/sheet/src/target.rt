@@ -18,12 +18,12 @@ use super::layout::TRANSMISSIVITY;
 use super::reading::Counts;
 use chain::enquiry::Enquiry;
 use chain::enquiry::Flux;
-use chain::enquiry::Turned;
 use chain::flux::flux;
+use chain::flux::number;
 ghost use mathlib.Core.Path.{_≡_};
 ghost use Prim.Native.Nat.{_+_, _≤_, _<_};
 ghost use lib.ListN.{length};
-ghost use Rattle.chain.specs.Flux.{shown, number-of};
+ghost use Rattle.chain.specs.Flux.{shown};
 ghost use Rattle.sheet.specs.Layout.{fuel-size, pool-size, target-size};
 ghost use Rattle.sheet.specs.Target.{enquiry-at, shown-of};
 ghost use Rattle.sheet.specs.Private.{Sound, shown-by};
@@ -34,23 +34,6 @@ pub(crate) struct Entry {
     pub(crate) low: u32,
     pub(crate) high: u32,
     pub(crate) note: u8,
-}
-
-// The numbers of "One flux", 18 of request 1 and 19 of request 3.
-fn number(why: Turned) -> u8
-    ensures { λ r. ⌜ r ≡ number-of why ⌝ }
-{
-    match why {
-        Turned::Fuel => 11,
-        Turned::Area => 12,
-        Turned::Method => 13,
-        Turned::Distance => 14,
-        Turned::Face => 15,
-        Turned::Height => 18,
-        Turned::Transmissivity => 19,
-        Turned::LowFlame => 16,
-        Turned::TooLarge => 17,
-    }
 }
 
 fn entry_of(f: Flux) -> Entry

@@ -1,0 +1,9 @@
+-- Laws of the definitions that no single function owns.
+pub mod Values
+pub mod Plain
+pub mod Ends
+pub mod Accepted
+pub mod Listing
+pub mod Answers
+pub mod Filling
+pub mod Claims
