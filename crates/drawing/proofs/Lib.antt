@@ -6,4 +6,5 @@ pub mod Accepted
 pub mod Listing
 pub mod Answers
 pub mod Filling
+pub mod Longest
 pub mod Claims

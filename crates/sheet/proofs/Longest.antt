@@ -1,6 +1,6 @@
 -- A longer input than the longest accepted sheet is refused, by the same number as its first 7,495 bytes: no program need read more.
 -- Every section that passes ends before those bytes do, so both are read alike. Assumes nothing.
-use mathlib.Core.Path.{_≡_, refl, sym, _∙_}
+use mathlib.Core.Path.{_≡_, refl, sym, ap, _∙_}
 use mathlib.Core.Bool.{Bool, true, false}
 use mathlib.Core.List.{List}
 use Prim.Native.Nat.{ℕ, suc, _+_, _*_, _≤_, _<_}
@@ -100,26 +100,25 @@ same-front s at k = rw (getD-take (longest + 1) s at 0 (omega arith), getD-take 
 front-alike : (s : List ℕ) → longest < length s → Alike (reading-of s) (reading-of (front s))
 front-alike s h = read-alike s (front s) h (rw (length-take-le (longest + 1) s (omega arith)) (omega arith)) (same-front s)
 
-fills-alike : (s t out : List ℕ) → Alike (reading-of s) (reading-of t) → fill-of t out ≡ fill-of s out
-unfolding fill-of
-fills-alike s t out a = rw (a .first, a .second)
-
-texts-alike : (s t : List ℕ) → Alike (reading-of s) (reading-of t) → text-of t ≡ text-of s
-unfolding text-of
-texts-alike s t a = rw (a .first, a .second)
-
--- Of every input the first 7,495 bytes are enough.
-by-length : (P : List ℕ → Type 0) (s : List ℕ) → P s → (longest < length s → P (front s)) → P (front s)
-by-length P s p h = elim (decLt longest (length s)) [ yes l ↦ h l | no l ↦ rw (take-all (longest + 1) s (omega arith)) p ]
+-- Of every input the first 7,495 bytes are enough, for all that is the same of two sheets refused alike.
+pub of-front :
+    {X : Type 0} (F : List ℕ → X) → ((s t : List ℕ) → Alike (reading-of s) (reading-of t) → F t ≡ F s) → (s : List ℕ) → F (front s) ≡ F s
+of-front F same s =
+    elim (decLt longest (length s)) [
+      | yes l ↦ same s (front s) (front-alike s l)
+      | no l ↦ ap F (take-all (longest + 1) s (omega arith))
+    ]
 
 pub front-read : (s : List ℕ) → reading-of (front s) ≡ reading-of s
-front-read s = by-length (λ t. reading-of t ≡ reading-of s) s refl (λ h. let a = front-alike s h in a .second ∙ sym (a .first))
+front-read = of-front reading-of (λ s t a. a .second ∙ sym (a .first))
 
 pub front-filled : (s out : List ℕ) → fill-of (front s) out ≡ fill-of s out
-front-filled s out = by-length (λ t. fill-of t out ≡ fill-of s out) s refl (λ h. fills-alike s (front s) out (front-alike s h))
+unfolding fill-of
+front-filled s out = of-front (λ r. fill-of r out) (λ r t a. rw (a .first, a .second)) s
 
 pub front-printed : (s : List ℕ) → text-of (front s) ≡ text-of s
-front-printed s = by-length (λ t. text-of t ≡ text-of s) s refl (λ h. texts-alike s (front s) (front-alike s h))
+unfolding text-of
+front-printed = of-front text-of (λ s t a. rw (a .first, a .second))
 
 pub front-reported : (s out : List ℕ) → report-of (front s) out ≡ report-of s out
 unfolding report-of
