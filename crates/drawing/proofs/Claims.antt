@@ -1,15 +1,15 @@
 -- What is claimed of the floats: every figure is small, so that its float, the sum and the half are exact; and a refused enquiry gives
 -- zeros alone. Assumes nothing.
-use mathlib.Core.Path.{_≡_, refl, sym, ap, _∙_}
-use mathlib.Core.Bool.{Bool, true, false, _&&_}
-use mathlib.Core.List.{List, _++_}
+use mathlib.Core.Path.{_≡_, refl, ap}
+use mathlib.Core.Bool.{true}
+use mathlib.Core.List.{List}
 use Prim.Native.Nat.{ℕ, zero, suc, _*_, _≤_, _<_}
 use native.Mathlib.Decide.{decLt}
 use native.Mathlib.Omega.{arith}
 use lib.ListN.{length, drop, getD}
 use lib.Ieee.{Float}
 use Rattle.chain.specs.declared.enquiry.Enquiry.{Enquiry}
-use Rattle.chain.specs.Flux.{Shown, flux-of}
+use Rattle.chain.specs.Flux.{flux-of}
 use Rattle.sheet.specs.Layout.{most-targets}
 use Rattle.sheet.specs.Reading.{reading-of}
 use Rattle.sheet.specs.Target.{enquiry-of, shown-of}
@@ -19,12 +19,13 @@ use Rattle.drawing.specs.declared.figures.Ends.the-variants.{Answered, R
 use Rattle.drawing.specs.declared.figures.Group.{Group}
 use Rattle.drawing.specs.Floats.{float, middle, plain}
 use Rattle.drawing.specs.Figures.{ends, ends-of, three-zeros, group-of}
-use Rattle.drawing.specs.Groups.{group-at, listed, group-size, laid-out, Lent, groups-of, fill-groups-of}
-use Rattle.drawing.specs.Claims.{limit, Exact, Between, Drawn, plain-ends, plain-group, Claims}
+use Rattle.drawing.specs.Groups.{group-at, groups-of}
+use Rattle.drawing.specs.Lent.{group-size, Lent, fill-groups-of}
+use Rattle.drawing.specs.Claims.{limit, Drawn, plain-ends, plain-group, Claims}
 use Rattle.drawing.proofs.Values.{exact, between, group-plain}
 use Rattle.drawing.proofs.Ends.{answered}
 use Rattle.drawing.proofs.Accepted.{small}
-use Rattle.drawing.proofs.Filling.{lent, short, room}
+use Rattle.drawing.proofs.Lending.{lent, short, room}
 use Rattle.drawing.proofs.Listing.{each-padded, each-lent}
 use Rattle.drawing.proofs.Plain.{Plain, both, all-plain, zero-plain, zeros}
 

@@ -1,7 +1,6 @@
 -- Which case of the enum the ends of an answer are: by its state. Assumes nothing.
 use mathlib.Core.Path.{_≡_, refl}
 use Prim.Native.Nat.{ℕ, zero, suc}
-use native.Mathlib.Omega.{arith}
 use Rattle.chain.specs.Flux.{Shown}
 use Rattle.drawing.specs.declared.figures.Ends.the-variants.{Answered, Refused}
 use Rattle.drawing.specs.Floats.{float}

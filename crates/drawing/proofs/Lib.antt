@@ -4,7 +4,7 @@ pub mod Plain
 pub mod Ends
 pub mod Accepted
 pub mod Listing
-pub mod Answers
-pub mod Filling
+pub mod Bytes
+pub mod Lending
 pub mod Longest
 pub mod Claims

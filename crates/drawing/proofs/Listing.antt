@@ -1,7 +1,7 @@
 -- Groups one after the other: in a list, in an array that is three zeros at first, and as floats in a lent slice.
 -- By the laws of append and of writes in a row. Assumes nothing.
-use mathlib.Core.Path.{_≡_, refl, sym, ap, _∙_}
-use mathlib.Core.List.{List, [], _∷_, _++_, append-assoc}
+use mathlib.Core.Path.{_≡_, refl, ap, _∙_}
+use mathlib.Core.List.{List, [], _∷_, _++_}
 use Prim.Native.Nat.{ℕ, zero, suc, _+_, _-_, _*_, _≤_, _<_}
 use native.Mathlib.Numerals.{add-one, unary-clauses}
 use native.Mathlib.Omega.{arith}
@@ -12,7 +12,8 @@ use Rattle.sheet.specs.Private.{pasted}
 use Rattle.sheet.proofs.Pasting.{join, store-after}
 use Rattle.drawing.specs.declared.figures.Group.{Group}
 use Rattle.drawing.specs.Figures.{three-zeros}
-use Rattle.drawing.specs.Groups.{listed, padded, group-size, floats, laid-out}
+use Rattle.drawing.specs.Groups.{listed, padded}
+use Rattle.drawing.specs.Lent.{group-size, floats, laid-out}
 
 -- ---- the first n groups
 pub listed-length : (group : ℕ → Group) (n : ℕ) → length (listed group n) ≡ n

@@ -7,7 +7,8 @@ use native.Mathlib.Omega.{arith}
 use lib.Ieee.{Float}
 use borrow.Author.Tests.{lt-ltb}
 use Rattle.sheet.proofs.Longest.{front, of-front}
-use Rattle.drawing.specs.Groups.{listed, groups-of, fill-groups-of}
+use Rattle.drawing.specs.Groups.{listed, groups-of}
+use Rattle.drawing.specs.Lent.{fill-groups-of}
 
 pub front-grouped : (s : List ℕ) → groups-of (front s) ≡ groups-of s
 unfolding groups-of listed

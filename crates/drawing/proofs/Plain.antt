@@ -1,5 +1,5 @@
 -- Floats, and groups of them, that are neither a NaN nor an infinity and have no sign. By the value that each has. Assumes nothing.
-use mathlib.Core.Path.{_≡_, refl, sym}
+use mathlib.Core.Path.{_≡_, refl}
 use mathlib.Core.Bool.{Bool, true, false, not, _&&_, false≢true}
 use native.Mathlib.Omega.{arith}
 use lib.Dec.{T}

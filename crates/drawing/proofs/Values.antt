@@ -3,21 +3,19 @@
 use mathlib.Core.Path.{_≡_, refl, sym, ap, _∙_, subst}
 use mathlib.Core.Bool.{true, false, true≢false}
 use Prim.Native.Nat.{ℕ, _+_, _*_, _^_, _≤_, _<_}
-use native.Mathlib.Nat.{le-trans, lt-of-lt-of-le, mul-pos, mul-one, one-mul, mul-assoc, mul-comm, mul-left-comm, add-mul, pow-suc, zero-lt-suc}
+use native.Mathlib.Nat.{lt-of-lt-of-le, mul-pos, mul-one, mul-assoc, mul-comm, mul-left-comm, add-mul, pow-suc}
 use native.Mathlib.Omega.{arith}
 use lib.Dec.{lit≤, lit<}
 use lib.Pow.{pow-mono, shl-lt}
 use lib.IntN.{pos}
-use lib.Ieee.{Float, nan, inf, fin, binary64, up, down, round, ofInt, add, div, le, sum}
+use lib.Ieee.{Float, nan, inf, fin, binary64, up, down, round, ofInt, add, div, sum}
 use lib.Ieee.Bits.{is-true}
 use lib.Ieee.Exact.{HasValue, round-exact}
 use lib.Ieee.Fits.{down-pos}
 use lib.Ieee.Back.{round-whole}
 use lib.Ieee.Scale.{round-same}
 use lib.Ieee.Order.{le-of-values}
-use Rattle.drawing.specs.declared.figures.Group.{Group}
 use Rattle.drawing.specs.Floats.{float, middle, Value, plain}
-use Rattle.drawing.specs.Figures.{group-of}
 use Rattle.drawing.specs.Claims.{limit, Exact, Between}
 
 -- ---- the definition of a value, and the kit's with no sign, say the same

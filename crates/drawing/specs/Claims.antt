@@ -15,7 +15,8 @@ use Rattle.drawing.specs.declared.figures.Ends.the-variants.{Answered, R
 use Rattle.drawing.specs.declared.figures.Group.{Group}
 use Rattle.drawing.specs.Floats.{float, middle, Value, plain}
 use Rattle.drawing.specs.Figures.{ends-of, group-of}
-use Rattle.drawing.specs.Groups.{group-size, groups-of, fill-groups-of}
+use Rattle.drawing.specs.Groups.{groups-of}
+use Rattle.drawing.specs.Lent.{group-size, fill-groups-of}
 
 -- "whole numbers below 2^33"
 abbrev pub limit : ℕ

@@ -1,10 +1,7 @@
--- Request 4: the groups of a sheet, by value and in a lent slice.
-use Prim.Native.Nat.{ℕ, zero, suc, _-_, _*_}
+-- Request 4: the groups of a sheet, by value.
+use Prim.Native.Nat.{ℕ, zero, suc, _-_}
 use mathlib.Core.List.{List, [], _∷_, _++_}
-use lib.ListN.{length, drop, replicate}
-use lib.Dec.{ltb}
-use lib.Ieee.{Float}
-use Rattle.pairs.specs.Figures.{refuse}
+use lib.ListN.{length, replicate}
 use Rattle.sheet.specs.Layout.{most-targets}
 use Rattle.sheet.specs.Reading.{reading-of}
 use Rattle.sheet.specs.Target.{shown-of}
@@ -34,33 +31,3 @@ groups-of s =
       count = reading-of s .targets;
       groups = padded (listed (group-at s) (reading-of s .targets));
     }
-
--- In a lent slice a group is three floats: low, middle and high.
-abbrev pub group-size : ℕ
-group-size = 3
-
-abbrev pub floats : Group → List Float
-floats g = g .low ∷ g .middle ∷ g .high ∷ []
-
-unfoldable pub laid-out : List Group → List Float
-laid-out [] = []
-laid-out (g ∷ gs) = floats g ++ laid-out gs
-
--- The number returned, and the floats of the lent slice afterwards.
-pub record Lent : Type 0 where
-  pub number : ℕ
-  pub floats : List Float
-
-abbrev pub untouched : ℕ → List Float → Lent
-untouched n out = record { number = n; floats = out }
-
--- The numbers of the fill: "1 to 5 as in reading; then 31", fewer than three floats per target. "Then nothing is written and that
--- number is returned; otherwise 0." Later floats keep their values.
-unfoldable pub fill-groups-of : List ℕ → List Float → Lent
-fill-groups-of s out =
-    refuse (ltb 0 (reading-of s .state)) (untouched (reading-of s .state) out)
-    (refuse (ltb (length out) (group-size * reading-of s .targets)) (untouched 31 out)
-    (record {
-      number = 0;
-      floats = laid-out (listed (group-at s) (reading-of s .targets)) ++ drop (group-size * reading-of s .targets) out;
-    }))

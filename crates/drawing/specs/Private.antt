@@ -1,10 +1,9 @@
 -- Vocabulary of private functions' contracts. No public contract uses it.
-use Prim.Native.Nat.{ℕ, zero, suc, _+_, _*_}
+use Prim.Native.Nat.{ℕ, _+_, _*_}
 use mathlib.Core.List.{List}
 use Rattle.chain.specs.Flux.{Shown}
 use Rattle.sheet.specs.Layout.{answer-size}
 use Rattle.sheet.specs.Bytes.{one, four}
-use Rattle.drawing.specs.declared.figures.Ends.{Ends}
 use Rattle.drawing.specs.declared.figures.Group.{Group}
 use Rattle.drawing.specs.Figures.{ends, group-of}
 

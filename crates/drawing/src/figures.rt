@@ -4,7 +4,7 @@ use chain::enquiry::Flux;
 use chain::flux::flux;
 use chain::flux::number;
 ghost use mathlib.Core.Path.{_≡_};
-ghost use Rattle.drawing.specs.Figures.{ends-of, group-of};
+ghost use Rattle.drawing.specs.Figures.{ends-of, three-zeros, group-of};
 
 // Low and high in W/m², or the number of the refusal.
 pub enum Ends {
@@ -30,6 +30,17 @@ pub fn ends_of(e: Enquiry) -> Ends
     }
 }
 
+// The group of a refusal.
+pub(crate) fn three_zeros() -> Group
+    ensures { λ r. ⌜ r ≡ three-zeros ⌝ }
+{
+    Group {
+        low: 0.0,
+        middle: 0.0,
+        high: 0.0,
+    }
+}
+
 // The group of these ends.
 pub fn group_of(e: Ends) -> Group
     ensures { λ r. ⌜ r ≡ group-of e ⌝ }
@@ -40,10 +51,6 @@ pub fn group_of(e: Ends) -> Group
             middle: (low + high) / 2.0,
             high,
         },
-        Ends::Refused(_) => Group {
-            low: 0.0,
-            middle: 0.0,
-            high: 0.0,
-        },
+        Ends::Refused(_) => three_zeros(),
     }
 }

@@ -1,9 +1,8 @@
 -- `main` is safe and ends: both buffers keep their lengths. The measure is the number of turns that are left.
 -- Assumes nothing.
-use mathlib.Core.Path.{_≡_, refl, sym, _∙_}
+use mathlib.Core.Path.{_≡_, refl, sym}
 use native.Mathlib.Omega.{arith}
 use lib.ListN.{length}
-use lib.Seq.{length-take-le}
 use borrow.Author.Needs.{needs}
 use Rattle.groups.proofs.main.Statement.{statement}
 use Rattle.groups.proofs.main.Tie as tie

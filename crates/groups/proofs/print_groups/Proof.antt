@@ -1,6 +1,6 @@
 -- `print_groups` is safe and ends: a sheet has at most 512 groups, and none of them has a NaN.
 -- Assumes nothing.
-use mathlib.Core.Path.{_≡_, ap}
+use mathlib.Core.Path.{_≡_}
 use mathlib.Core.List.{List}
 use Prim.Native.Nat.{ℕ, _-_, _≤_}
 use native.Mathlib.Omega.{arith}

@@ -1,15 +1,13 @@
 -- `groups_in` meets its contract: the groups of the answers passed stand at the front, and three zeros behind them.
 -- Assumes nothing.
-use mathlib.Core.Path.{_≡_, refl, sym, ap, _∙_}
+use mathlib.Core.Path.{_≡_, refl, ap, _∙_}
 use Prim.Native.Nat.{ℕ, _-_, _≤_}
 use native.Mathlib.Omega.{arith}
 use lib.ListN.{length, replicate, length-set, length-replicate}
-use lib.Ieee.{ofInt, ofBits}
 use Rattle.sheet.specs.Layout.{most-targets}
 use Rattle.sheet.specs.Private.{pasted}
-use Rattle.drawing.specs.Floats.{float}
 use Rattle.drawing.specs.Figures.{three-zeros}
-use Rattle.drawing.specs.Groups.{listed, padded}
+use Rattle.drawing.specs.Groups.{listed}
 use Rattle.drawing.specs.Private.{group-in}
 use Rattle.drawing.proofs.Listing.{none-stored, one-stored, all-stored}
 use Rattle.drawing.proofs.groups.groups_in.Statement.{statement}
@@ -22,18 +20,22 @@ Inv-loop answers count groups₀ i₀ groups i =
 abbrev μ-loop : tie.MeasureT-loop
 μ-loop answers count groups₀ i₀ groups i = count - i
 
+three-zeros-requires : tie.Need-three-zeros-requires Inv-loop μ-loop
+three-zeros-requires c κs = tt
+
 loop-holds : tie.Need-loop-holds Inv-loop μ-loop
-unfolding float ofInt ofBits
-loop-holds c = (omega arith, refl, none-stored (group-in (c .before .args .answers .now)) (replicate most-targets three-zeros))
+loop-holds c =
+    let zeros = ap (replicate most-targets) (c .three-zeros .ensures) in
+    (omega arith, refl, zeros ∙ none-stored (group-in (c .before .before .args .answers .now)) (replicate most-targets three-zeros))
 
 group-in-requires : tie.Need-group-in-requires Inv-loop μ-loop
-group-in-requires c κs = let pre = c .before .before .before .pre in (omega (arith, pre .0), pre .1)
+group-in-requires c κs = let pre = c .before .before .before .before .pre in (omega (arith, pre .0), pre .1)
 
 mul-groups : tie.Need-mul-groups Inv-loop μ-loop
-mul-groups c = omega (arith, c .before .before .before .before .pre .0)
+mul-groups c = omega (arith, c .before .before .before .before .before .pre .0)
 
 array-set-from-groups : tie.Need-array-set-from-groups Inv-loop μ-loop
-array-set-from-groups c = omega (arith, c .before .before .before .before .pre .0)
+array-set-from-groups c = omega (arith, c .before .before .before .before .before .pre .0)
 
 add-i : tie.Need-add-i Inv-loop μ-loop
 add-i c = omega arith
@@ -44,7 +46,7 @@ loop-less c = omega arith
 loop-again : tie.Need-loop-again Inv-loop μ-loop
 loop-again c =
     let l = c .before .before .loop in
-    let b = c .before .before .before .before in
+    let b = c .before .before .before .before .before in
     let room = length-replicate most-targets three-zeros in (
       omega arith,
       simp length-set (l .inv .1),
@@ -53,7 +55,7 @@ loop-again c =
 
 returns : tie.Need-returns Inv-loop μ-loop
 returns c =
-    let a = c .before .before .before .args in
+    let a = c .before .before .before .before .args in
     let l = c .before .loop in
     let all : l .i ≡ a .count = omega arith in
     l .inv .2
@@ -66,6 +68,7 @@ groups-in-spec =
     (tie.spec
     Inv-loop
     μ-loop
+    three-zeros-requires
     loop-holds
     group-in-requires
     mul-groups

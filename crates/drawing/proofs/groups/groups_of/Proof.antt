@@ -2,7 +2,7 @@
 -- Assumes nothing.
 use mathlib.Core.Path.{ap, _∙_}
 use Rattle.drawing.specs.Groups.{padded, groups-of}
-use Rattle.drawing.proofs.Answers.{number-filled, groups-read}
+use Rattle.drawing.proofs.Bytes.{number-filled, groups-read}
 use borrow.Author.Needs.{needs}
 use Rattle.drawing.proofs.groups.groups_of.Statement.{statement}
 use Rattle.drawing.proofs.groups.groups_of.Tie as tie

@@ -3,8 +3,8 @@
 use native.Mathlib.Nat.{add-assoc}
 use Rattle.sheet.specs.Bytes.{two, four}
 use borrow.Author.Needs.{needs}
-use Rattle.drawing.proofs.groups.four.Statement.{statement}
-use Rattle.drawing.proofs.groups.four.Tie as tie
+use Rattle.drawing.proofs.answers.four.Statement.{statement}
+use Rattle.drawing.proofs.answers.four.Tie as tie
 
 shared-slice-read-wide : tie.Need-shared-slice-read-wide
 shared-slice-read-wide c = search needs

@@ -7,7 +7,7 @@ use native.Mathlib.Nat.{le-of-eq, add-zero, div-div-eq-div-mul}
 use native.Mathlib.Omega.{arith}
 use lib.ListN.{length, drop, replicate, length-replicate}
 use borrow.Author.Tests.{le-ltb}
-use Rattle.chain.specs.Flux.{Shown, flux-of}
+use Rattle.chain.specs.Flux.{Shown}
 use Rattle.sheet.specs.Layout.{most-targets, answer-size}
 use Rattle.sheet.specs.Bytes.{one, two, four, four-bytes}
 use Rattle.sheet.specs.Reading.{reading-of}
@@ -15,8 +15,7 @@ use Rattle.sheet.specs.Target.{enquiry-of, shown-of}
 use Rattle.sheet.specs.Fill.{Filled, ten-bytes, answers, written, with-room, fill-after, fill-of}
 use Rattle.sheet.proofs.Sections.{refused-none, few-targets}
 use Rattle.sheet.proofs.Own.{cut, same-one, same-four, own-place}
-use Rattle.drawing.specs.declared.figures.Ends.{Ends}
-use Rattle.drawing.specs.declared.figures.Ends.the-variants.{Answered, Refused}
+use Rattle.drawing.specs.declared.figures.Ends.the-variants.{Answered}
 use Rattle.drawing.specs.Floats.{float}
 use Rattle.drawing.specs.Figures.{ends, group-of}
 use Rattle.drawing.specs.Groups.{group-at, listed}

@@ -5,13 +5,14 @@ use mathlib.Core.List.{List}
 use Rattle.sheet.specs.Reading.{reading-of}
 use Rattle.sheet.specs.Private.{pasted}
 use Rattle.drawing.specs.declared.figures.Group.{Group}
-use Rattle.drawing.specs.Groups.{group-at, laid-out, Lent}
-use Rattle.drawing.proofs.Answers.{number-filled, groups-read}
-use Rattle.drawing.proofs.Filling.{short, room}
+use Rattle.drawing.specs.Groups.{group-at}
+use Rattle.drawing.specs.Lent.{laid-out, Lent}
+use Rattle.drawing.proofs.Bytes.{number-filled, groups-read}
+use Rattle.drawing.proofs.Lending.{short, room}
 use Rattle.drawing.proofs.Listing.{all-laid-out}
 use borrow.Author.Needs.{needs}
-use Rattle.drawing.proofs.groups.fill_groups.Statement.{statement}
-use Rattle.drawing.proofs.groups.fill_groups.Tie as tie
+use Rattle.drawing.proofs.lent.fill_groups.Statement.{statement}
+use Rattle.drawing.proofs.lent.fill_groups.Tie as tie
 
 targets-requires : tie.Need-targets-requires
 targets-requires c κs = search needs

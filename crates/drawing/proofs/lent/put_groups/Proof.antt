@@ -5,11 +5,12 @@ use Prim.Native.Nat.{ℕ, _-_, _≤_}
 use native.Mathlib.Omega.{arith}
 use lib.ListN.{length}
 use Rattle.sheet.specs.Private.{pasted}
-use Rattle.drawing.specs.Groups.{listed, laid-out}
+use Rattle.drawing.specs.Groups.{listed}
+use Rattle.drawing.specs.Lent.{laid-out}
 use Rattle.drawing.specs.Private.{group-in}
 use Rattle.drawing.proofs.Listing.{none-laid-out, one-laid-out}
-use Rattle.drawing.proofs.groups.put_groups.Statement.{statement}
-use Rattle.drawing.proofs.groups.put_groups.Tie as tie
+use Rattle.drawing.proofs.lent.put_groups.Statement.{statement}
+use Rattle.drawing.proofs.lent.put_groups.Tie as tie
 
 abbrev Inv-loop : tie.InvT-loop
 Inv-loop answers count out₀ i₀ out i =

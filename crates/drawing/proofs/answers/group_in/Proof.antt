@@ -4,8 +4,8 @@ use mathlib.Core.Path.{ap, _∙_}
 use Rattle.drawing.specs.Figures.{group-of}
 use Rattle.drawing.specs.Private.{group-in}
 use borrow.Author.Needs.{needs}
-use Rattle.drawing.proofs.groups.group_in.Statement.{statement}
-use Rattle.drawing.proofs.groups.group_in.Tie as tie
+use Rattle.drawing.proofs.answers.group_in.Statement.{statement}
+use Rattle.drawing.proofs.answers.group_in.Tie as tie
 
 mul-ends-in : tie.Need-mul-ends-in
 mul-ends-in c = search needs

@@ -1,13 +1,12 @@
 -- `targets` meets its contract: the count of an accepted sheet, and 0 of a refused one.
 -- Assumes nothing.
-use mathlib.Core.Path.{_≡_, sym, ap, _∙_}
-use Prim.Native.Nat.{ℕ}
+use mathlib.Core.Path.{sym, ap, _∙_}
 use native.Mathlib.Omega.{arith}
 use Rattle.sheet.specs.Reading.{Outcome, outcome}
 use Rattle.sheet.proofs.Sections.{few-targets}
 use borrow.Author.Needs.{needs}
-use Rattle.drawing.proofs.groups.targets.Statement.{statement}
-use Rattle.drawing.proofs.groups.targets.Tie as tie
+use Rattle.drawing.proofs.answers.targets.Statement.{statement}
+use Rattle.drawing.proofs.answers.targets.Tie as tie
 
 read-requires : tie.Need-read-requires
 read-requires c κs = search needs

@@ -4,8 +4,8 @@ use native.Mathlib.Omega.{arith}
 use lib.ListN.{length-set}
 use Rattle.sheet.proofs.Pasting.{three-stores}
 use borrow.Author.Needs.{needs}
-use Rattle.drawing.proofs.groups.put_group.Statement.{statement}
-use Rattle.drawing.proofs.groups.put_group.Tie as tie
+use Rattle.drawing.proofs.lent.put_group.Statement.{statement}
+use Rattle.drawing.proofs.lent.put_group.Tie as tie
 
 mul-out : tie.Need-mul-out
 mul-out c = search needs

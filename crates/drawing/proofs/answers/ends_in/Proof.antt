@@ -1,14 +1,13 @@
 -- `ends_in` meets its contract: a state that is not 0 refuses, and low and high follow it.
 -- Assumes nothing.
-use mathlib.Core.Path.{sym, ap, _∙_}
+use mathlib.Core.Path.{sym}
 use Rattle.sheet.specs.Bytes.{one}
-use Rattle.drawing.specs.declared.figures.Ends.the-variants.{Answered}
 use Rattle.drawing.specs.Floats.{float}
 use Rattle.drawing.specs.Private.{shown-in}
 use Rattle.drawing.proofs.Ends.{answered, refused}
 use borrow.Author.Needs.{needs}
-use Rattle.drawing.proofs.groups.ends_in.Statement.{statement}
-use Rattle.drawing.proofs.groups.ends_in.Tie as tie
+use Rattle.drawing.proofs.answers.ends_in.Statement.{statement}
+use Rattle.drawing.proofs.answers.ends_in.Tie as tie
 
 shared-slice-read-state : tie.Need-shared-slice-read-state
 shared-slice-read-state c = search needs

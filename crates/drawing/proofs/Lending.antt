@@ -11,8 +11,8 @@ use borrow.Author.Tests.{lt-ltb, le-ltb}
 use Rattle.pairs.specs.Figures.{refuse}
 use Rattle.sheet.specs.Reading.{reading-of}
 use Rattle.sheet.proofs.Sections.{refused-none}
-use Rattle.drawing.specs.declared.figures.Group.{Group}
-use Rattle.drawing.specs.Groups.{group-at, listed, group-size, laid-out, Lent, untouched, fill-groups-of}
+use Rattle.drawing.specs.Groups.{group-at, listed}
+use Rattle.drawing.specs.Lent.{group-size, laid-out, Lent, untouched, fill-groups-of}
 
 -- What is left of the slice where there is room.
 abbrev pub lent : List ℕ → List Float → List Float
