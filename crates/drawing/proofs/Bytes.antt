@@ -2,18 +2,19 @@
 -- Assumes nothing.
 use mathlib.Core.Path.{_≡_, refl, sym, ap, _∙_}
 use mathlib.Core.List.{List, _++_}
-use Prim.Native.Nat.{ℕ, zero, suc, _+_, _*_, _/_, _%_, _≤_, _<_}
-use native.Mathlib.Nat.{le-of-eq, add-zero, div-div-eq-div-mul}
+use Prim.Native.Nat.{ℕ, zero, suc, _+_, _*_, _/_, _%_, _<_}
+use native.Mathlib.Nat.{add-zero, div-div-eq-div-mul}
 use native.Mathlib.Omega.{arith}
-use lib.ListN.{length, drop, replicate, length-replicate}
-use borrow.Author.Tests.{le-ltb}
+use lib.ListN.{drop, replicate, length-replicate}
 use Rattle.chain.specs.Flux.{Shown}
 use Rattle.sheet.specs.Layout.{most-targets, answer-size}
 use Rattle.sheet.specs.Bytes.{one, two, four, four-bytes}
 use Rattle.sheet.specs.Reading.{reading-of}
 use Rattle.sheet.specs.Target.{enquiry-of, shown-of}
-use Rattle.sheet.specs.Fill.{Filled, ten-bytes, answers, written, with-room, fill-after, fill-of}
+use Rattle.sheet.specs.Lent.{Lent}
+use Rattle.sheet.specs.Fill.{ten-bytes, answers, fill-of}
 use Rattle.sheet.proofs.Sections.{refused-none, few-targets}
+use Rattle.sheet.proofs.Lending.{filled-with, ample}
 use Rattle.sheet.proofs.Own.{cut, same-one, same-four, own-place}
 use Rattle.drawing.specs.declared.figures.Ends.the-variants.{Answered}
 use Rattle.drawing.specs.Floats.{float}
@@ -23,29 +24,20 @@ use Rattle.drawing.specs.Private.{shown-in, group-in}
 use Rattle.drawing.proofs.Accepted.{Small, small}
 use Rattle.drawing.proofs.Listing.{listed-same}
 
--- ---- with room for the most targets a fill is refused as reading is, and by nothing else
-by-state :
-    (n t : ℕ) (s out : List ℕ) → ((k : ℕ) → n ≡ suc k → t ≡ 0) → answer-size * t ≤ length out
-    → fill-after (record { state = n; fuels = 0; pools = 0; targets = t }) s out ≡ record { number = n; bytes = answers s t ++ drop (answer-size * t) out }
-unfolding with-room written answers
-by-state zero t s out none h = rw (le-ltb (length out) (answer-size * t) h)
-by-state (suc n) t s out none h = rw (none n refl)
-
-filled :
-    (s out : List ℕ) → answer-size * most-targets ≤ length out
-    → fill-of s out ≡ record { number = reading-of s .state; bytes = answers s (reading-of s .targets) ++ drop (answer-size * reading-of s .targets) out }
-unfolding fill-of
-filled s out h = by-state (reading-of s .state) (reading-of s .targets) s out (refused-none s) (omega (arith, few-targets s))
-
--- The buffer that the code lends.
+-- ---- the buffer that the code lends has room for the most targets: the fill is refused as reading is, and by nothing else
 abbrev pub blank : List ℕ
 blank = replicate (answer-size * most-targets) 0
 
-roomy : answer-size * most-targets ≤ length blank
-roomy = le-of-eq (sym (length-replicate {A = ℕ} (answer-size * most-targets) 0))
+filled :
+    (s : List ℕ)
+    → record { number = reading-of s .state; elements = filled-with answer-size (answers s) (reading-of s .targets) blank } ≡ fill-of s blank
+unfolding fill-of answers
+filled s =
+    ample answer-size (answers s) (reading-of s) (refused-none s) refl blank
+    (omega (arith, few-targets s, length-replicate {A = ℕ} (answer-size * most-targets) 0))
 
 pub number-filled : (s : List ℕ) → fill-of s blank .number ≡ reading-of s .state
-number-filled s = ap (λ (f : Filled). f .number) (filled s blank roomy)
+number-filled s = sym (ap (λ (f : Lent ℕ). f .number) (filled s))
 
 -- ---- the figures in ten bytes
 by-digits :
@@ -88,10 +80,10 @@ group-read s rest n i h =
 
 -- All groups of a sheet, from the bytes that the fill leaves in that buffer.
 pub groups-read :
-    (s b : List ℕ) (count : ℕ) → b ≡ fill-of s blank .bytes → count ≡ reading-of s .targets
+    (s b : List ℕ) (count : ℕ) → b ≡ fill-of s blank .elements → count ≡ reading-of s .targets
     → listed (group-in b) count ≡ listed (group-at s) (reading-of s .targets)
 groups-read s b count e c =
     let n = reading-of s .targets in
     let rest = drop (answer-size * n) blank in
-    rw (c, e ∙ ap (λ (f : Filled). f .bytes) (filled s blank roomy))
+    rw (c, e ∙ sym (ap (λ (f : Lent ℕ). f .elements) (filled s)))
     (listed-same (group-in (answers s n ++ rest)) (group-at s) n (group-read s rest n))

@@ -1,12 +1,11 @@
 -- What is claimed of the floats: every figure is small, so that its float, the sum and the half are exact; and a refused enquiry gives
 -- zeros alone. Assumes nothing.
-use mathlib.Core.Path.{_≡_, refl, ap}
+use mathlib.Core.Path.{_≡_, refl}
 use mathlib.Core.Bool.{true}
 use mathlib.Core.List.{List}
 use Prim.Native.Nat.{ℕ, zero, suc, _*_, _≤_, _<_}
-use native.Mathlib.Decide.{decLt}
 use native.Mathlib.Omega.{arith}
-use lib.ListN.{length, drop, getD}
+use lib.ListN.{drop, getD}
 use lib.Ieee.{Float}
 use Rattle.chain.specs.declared.enquiry.Enquiry.{Enquiry}
 use Rattle.chain.specs.Flux.{flux-of}
@@ -14,18 +13,18 @@ use Rattle.sheet.specs.Layout.{most-targets}
 use Rattle.sheet.specs.Reading.{reading-of}
 use Rattle.sheet.specs.Target.{enquiry-of, shown-of}
 use Rattle.sheet.proofs.Sections.{few-targets}
+use Rattle.sheet.proofs.Lending.{returned-0}
 use Rattle.drawing.specs.declared.figures.Ends.{Ends}
 use Rattle.drawing.specs.declared.figures.Ends.the-variants.{Answered, Refused}
 use Rattle.drawing.specs.declared.figures.Group.{Group}
 use Rattle.drawing.specs.Floats.{float, middle, plain}
 use Rattle.drawing.specs.Figures.{ends, ends-of, three-zeros, group-of}
-use Rattle.drawing.specs.Groups.{group-at, groups-of}
-use Rattle.drawing.specs.Lent.{group-size, Lent, fill-groups-of}
+use Rattle.drawing.specs.Groups.{group-at, listed, groups-of}
+use Rattle.drawing.specs.Lent.{group-size, laid-out, fill-groups-of}
 use Rattle.drawing.specs.Claims.{limit, Drawn, plain-ends, plain-group, Claims}
 use Rattle.drawing.proofs.Values.{exact, between, group-plain}
 use Rattle.drawing.proofs.Ends.{answered}
 use Rattle.drawing.proofs.Accepted.{small}
-use Rattle.drawing.proofs.Lending.{lent, short, room}
 use Rattle.drawing.proofs.Listing.{each-padded, each-lent}
 use Rattle.drawing.proofs.Plain.{Plain, both, all-plain, zero-plain, zeros}
 
@@ -84,20 +83,13 @@ few : (s : List ℕ) → groups-of s .count ≤ most-targets
 unfolding groups-of
 few = few-targets
 
--- A fill that returns 0 had room.
-passed : (s : List ℕ) (out : List Float) → fill-groups-of s out .number ≡ 0 → fill-groups-of s out .floats ≡ lent s out
-passed s out e =
-    elim (decLt (length out) (group-size * reading-of s .targets)) [
-      | yes l ↦ let number = ap (λ (f : Lent). f .number) (short s out l) in absurd (omega (arith, number, e))
-      | no l ↦ ap (λ (f : Lent). f .floats) (room s out (omega arith))
-    ]
-
 written-plain :
     (s : List ℕ) (out : List Float) → fill-groups-of s out .number ≡ 0 → (i : ℕ) → i < group-size * reading-of s .targets → (other : Float)
-    → plain (getD (fill-groups-of s out .floats) i other) ≡ true
+    → plain (getD (fill-groups-of s out .elements) i other) ≡ true
+unfolding fill-groups-of
 written-plain s out e i h other =
     let n = reading-of s .targets in
-    rw (passed s out e)
+    rw (returned-0 group-size (λ n. laid-out (listed (group-at s) n)) (reading-of s) out e .1)
     (each-lent (λ x. plain x ≡ true) (group-at s) (float 0) zero-plain (λ j. let p = target-plain s j in (p .low, p .middle, p .high)) n (drop (group-size * n) out) i h other)
 
 pub claims : Claims
@@ -105,8 +97,8 @@ claims =
     record {
       exact = exact;
       drawn = drawn;
-      few = few;
       ends-plain = enquiry-ends-plain;
+      few = few;
       groups-plain = sheet-plain;
       fill-plain = written-plain;
     }

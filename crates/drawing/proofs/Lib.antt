@@ -5,6 +5,5 @@ pub mod Ends
 pub mod Accepted
 pub mod Listing
 pub mod Bytes
-pub mod Lending
 pub mod Longest
 pub mod Claims

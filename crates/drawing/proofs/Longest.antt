@@ -2,10 +2,8 @@
 -- By the law of sheets that are refused alike. Assumes nothing.
 use mathlib.Core.Path.{_≡_}
 use mathlib.Core.List.{List}
-use Prim.Native.Nat.{ℕ, suc}
-use native.Mathlib.Omega.{arith}
+use Prim.Native.Nat.{ℕ}
 use lib.Ieee.{Float}
-use borrow.Author.Tests.{lt-ltb}
 use Rattle.sheet.proofs.Longest.{front, of-front}
 use Rattle.drawing.specs.Groups.{listed, groups-of}
 use Rattle.drawing.specs.Lent.{fill-groups-of}
@@ -16,4 +14,4 @@ front-grouped = of-front groups-of (λ s t a. rw (a .first, a .second))
 
 pub front-filled : (s : List ℕ) (out : List Float) → fill-groups-of (front s) out ≡ fill-groups-of s out
 unfolding fill-groups-of
-front-filled s out = of-front (λ r. fill-groups-of r out) (λ r t a. rw (a .first, a .second, lt-ltb 0 (suc (a .least)) (omega arith))) s
+front-filled s out = of-front (λ r. fill-groups-of r out) (λ r t a. rw (a .first, a .second)) s

@@ -41,7 +41,7 @@ pub record Drawn (E : Enquiry) : Type 0 where
   pub answered : ends-of E ≡ Answered (float (flux-of E .low)) (float (flux-of E .high))
   pub between : Between (group-of (ends-of E))
 
--- "no NaN, no infinity, no negative zero can come out"
+-- No NaN, no infinity and no -0 comes out.
 abbrev pub plain-ends : Ends → Bool
 plain-ends (Answered low high) = plain low && plain high
 plain-ends (Refused number) = true
@@ -59,4 +59,4 @@ pub record Claims : Type 0 where
       (s : List ℕ) (i : ℕ) → i < most-targets → (other : Group) → plain-group (getD (groups-of s .groups) i other) ≡ true
   pub fill-plain :
       (s : List ℕ) (out : List Float) → fill-groups-of s out .number ≡ 0 → (i : ℕ) → i < group-size * reading-of s .targets
-      → (other : Float) → plain (getD (fill-groups-of s out .floats) i other) ≡ true
+      → (other : Float) → plain (getD (fill-groups-of s out .elements) i other) ≡ true

@@ -40,7 +40,7 @@ fn put_groups(answers: &[u8], count: usize, out: &mut [f64])
 // Writes three floats per target of the sheet and returns 0; or writes nothing and returns the number of the refusal.
 #[no_mangle]
 pub extern "C" fn fill_groups(sheet: &[u8], out: &mut [f64]) -> u8
-    ensures { λ r. ⌜ (r ≡ fill-groups-of (now (sheet .entry)) (now (out .entry)) .number) × (now (out .exit) ≡ fill-groups-of (now (sheet .entry)) (now (out .entry)) .floats) ⌝ }
+    ensures { λ r. ⌜ (r ≡ fill-groups-of (now (sheet .entry)) (now (out .entry)) .number) × (now (out .exit) ≡ fill-groups-of (now (sheet .entry)) (now (out .entry)) .elements) ⌝ }
 {
     let count = targets(sheet);
     if out.len() < GROUP_SIZE * count {

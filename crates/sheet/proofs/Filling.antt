@@ -2,11 +2,10 @@
 -- By the laws of writes in a row. Assumes nothing.
 use mathlib.Core.Path.{_≡_, refl, ap, _∙_}
 use mathlib.Core.List.{List, [], _∷_, _++_}
-use Prim.Native.Nat.{ℕ, zero, suc, _+_, _*_, _≤_, _<_}
+use Prim.Native.Nat.{ℕ, zero, suc, _+_, _*_, _≤_}
 use native.Mathlib.Numerals.{add-one}
 use native.Mathlib.Omega.{arith}
 use lib.ListN.{length, drop, set, length-append}
-use borrow.Author.Tests.{lt-ltb, le-ltb}
 use Rattle.chain.specs.Flux.{Shown}
 use Rattle.sheet.specs.declared.reading.Counts.{Counts}
 use Rattle.sheet.specs.declared.reading.Fault.{Fault}
@@ -16,9 +15,11 @@ use Rattle.sheet.specs.Layout.{answer-size}
 use Rattle.sheet.specs.Bytes.{four-bytes}
 use Rattle.sheet.specs.Reading.{Outcome, outcome, number-of, refused, reading-of}
 use Rattle.sheet.specs.Target.{shown-of}
-use Rattle.sheet.specs.Fill.{ten-bytes, answers, written, untouched, with-room, fill-after, fill-of}
+use Rattle.sheet.specs.Lent.{untouched, with-room, lent}
+use Rattle.sheet.specs.Fill.{ten-bytes, answers, fill-of}
 use Rattle.sheet.specs.Private.{pasted}
 use Rattle.sheet.proofs.Pasting.{store, join, store-after}
+use Rattle.sheet.proofs.Lending.{room}
 
 -- A state, two numbers of four bytes and a note, one after the other.
 pub ten-written :
@@ -53,17 +54,15 @@ one-more s d e f i a h p q r =
     r ∙ rw (p, q, at, add-one i) (join d 0 (answers s i) (ten-bytes (shown-of s i)) (omega (arith, answers-length s i, ten (shown-of s i))))
 
 -- The cases of the definition.
-pub no-room : (s out : List ℕ) (t : ℕ) → length out < answer-size * t → untouched 31 out ≡ with-room s t out
-unfolding with-room
-no-room s out t h = rw (lt-ltb (length out) (answer-size * t) h)
-
-pub room : (s out last : List ℕ) (t : ℕ) → answer-size * t ≤ length out → last ≡ pasted out 0 (answers s t) → record { number = 0; bytes = last } ≡ with-room s t out
-unfolding with-room written pasted
-room s out last t h e =
+pub written :
+    (s out last : List ℕ) (t : ℕ) → answer-size * t ≤ length out → last ≡ pasted out 0 (answers s t)
+    → record { number = 0; elements = last } ≡ with-room answer-size (answers s) t out
+unfolding pasted
+written s out last t h e =
     let past : 0 + length (answers s t) ≡ answer-size * t = omega (arith, answers-length s t) in
-    rw (le-ltb (length out) (answer-size * t) h) (λ j. record { number = 0; bytes = (e ∙ ap (λ (k : ℕ). answers s t ++ drop k out) past) j })
+    (λ j. record { number = 0; elements = (e ∙ ap (λ (k : ℕ). answers s t ++ drop k out) past) j }) ∙ room answer-size (answers s) t out h
 
-by-fault : (why : Fault) (s out : List ℕ) → untouched (number-of why) out ≡ fill-after (refused (number-of why)) s out
+by-fault : (why : Fault) (s out : List ℕ) → untouched (number-of why) out ≡ lent (refused (number-of why)) answer-size (answers s) out
 by-fault CutShort s out = refl
 by-fault TooMany s out = refl
 by-fault LeftOver s out = refl
@@ -72,8 +71,9 @@ by-fault NoPool s out = refl
 
 pub fill-refused : (s out : List ℕ) (why : Fault) → outcome (Refused why) ≡ reading-of s → untouched (number-of why) out ≡ fill-of s out
 unfolding fill-of
-fill-refused s out why e = by-fault why s out ∙ ap (λ (o : Outcome). fill-after o s out) e
+fill-refused s out why e = by-fault why s out ∙ ap (λ (o : Outcome). lent o answer-size (answers s) out) e
 
-pub fill-accepted : (s out : List ℕ) (n : Counts) → outcome (Accepted n) ≡ reading-of s → with-room s (n .targets) out ≡ fill-of s out
+pub fill-accepted :
+    (s out : List ℕ) (n : Counts) → outcome (Accepted n) ≡ reading-of s → with-room answer-size (answers s) (n .targets) out ≡ fill-of s out
 unfolding fill-of
-fill-accepted s out n e = ap (λ (o : Outcome). fill-after o s out) e
+fill-accepted s out n e = ap (λ (o : Outcome). lent o answer-size (answers s) out) e

@@ -3,6 +3,7 @@ pub mod Pasting
 pub mod Digits
 pub mod Sections
 pub mod Places
+pub mod Lending
 pub mod Filling
 pub mod Printing
 pub mod Longest

@@ -1,22 +1,22 @@
 -- What the bytes of a fill depend on: a target's ten on its own entry, its pool and that pool's fuel, and no other byte of the sheet;
 -- later bytes, and all bytes with a refusal, on nothing but what stood there. By cutting the lists. Assumes nothing.
 use mathlib.Core.Path.{_≡_, refl, sym, ap, _∙_}
-use mathlib.Core.Bool.{Bool, true, false}
 use mathlib.Core.List.{List, [], _++_, append-assoc}
 use Prim.Native.Nat.{ℕ, zero, suc, _+_, _*_, _≤_, _<_}
 use native.Mathlib.Nat.{add-assoc, add-zero}
 use native.Mathlib.Decide.{decLt}
 use native.Mathlib.Omega.{arith}
-use lib.ListN.{length, take, drop, getD}
+use lib.ListN.{take, drop, getD}
 use lib.Seq.{getD-take, getD-drop, take-at, drop-at}
-use lib.Dec.{ltb}
 use Rattle.chain.specs.Flux.{flux-of}
 use Rattle.sheet.specs.Layout.{fuel-size, absorption-offset, heat-offset, pool-size, method-offset, target-size, distance-offset, face-offset, height-offset, transmissivity-offset, answer-size, fuel-at, pool-at, target-at}
 use Rattle.sheet.specs.Bytes.{one, two, four, signed, four-signed}
 use Rattle.sheet.specs.Reading.{reading-of, fuels-of, pools-of, targets-of, fuel-index, pool-index}
 use Rattle.sheet.specs.Target.{enquiry-at, enquiry-of, shown-of}
-use Rattle.sheet.specs.Fill.{ten-bytes, answers, Filled, either, untouched, written, with-room, fill-after, fill-of}
+use Rattle.sheet.specs.Fill.{ten-bytes, answers, fill-of}
 use Rattle.sheet.proofs.Sections.{sound}
+use Rattle.sheet.proofs.Lending as lending
+use Rattle.sheet.proofs.Lending.{filled-with, returned-0}
 use Rattle.sheet.proofs.Filling.{ten, answers-length}
 
 -- The bytes of a record.
@@ -103,55 +103,26 @@ own-place s (suc n) i rest h =
     ]
 
 -- A fill that returns 0 has written its answers.
-by-room :
-    (b : Bool) (s out : List ℕ) (t : ℕ) → either b (untouched 31 out) (written s t out) .number ≡ 0
-    → either b (untouched 31 out) (written s t out) ≡ written s t out
-by-room true s out t e = absurd (omega arith)
-by-room false s out t e = refl
-
-by-state :
-    (n t : ℕ) (s out : List ℕ) → fill-after (record { state = n; fuels = 0; pools = 0; targets = t }) s out .number ≡ 0
-    → (n ≡ 0) × (fill-after (record { state = n; fuels = 0; pools = 0; targets = t }) s out ≡ written s t out)
-unfolding with-room
-by-state zero t s out e = (refl, by-room (ltb (length out) (answer-size * t)) s out t e)
-by-state (suc n) t s out e = absurd (omega arith)
-
-filled : (s out : List ℕ) → fill-of s out .number ≡ 0 → fill-of s out .bytes ≡ answers s (targets-of s) ++ drop (answer-size * targets-of s) out
-unfolding fill-of written
+filled : (s out : List ℕ) → fill-of s out .number ≡ 0 → fill-of s out .elements ≡ filled-with answer-size (answers s) (targets-of s) out
+unfolding fill-of
 filled s out e =
-    let o = reading-of s in
-    let k = by-state (o .state) (o .targets) s out e in
-    ap (λ (f : Filled). f .bytes) (k .1)
-    ∙ ap (λ (n : ℕ). answers s n ++ drop (answer-size * n) out) (sound s o refl (k .0) .targets-are)
+    let k = returned-0 answer-size (answers s) (reading-of s) out e in
+    k .1 ∙ ap (λ (n : ℕ). filled-with answer-size (answers s) n out) (sound s (reading-of s) refl (k .0) .targets-are)
 
 -- "For every target its ten bytes depend only on its own entry, its pool and that pool's fuel."
 pub own :
     (s t out pad : List ℕ) (i j : ℕ) → fill-of s out .number ≡ 0 → fill-of t pad .number ≡ 0 → i < targets-of s → j < targets-of t
     → entry-bytes s i ≡ entry-bytes t j → pool-bytes s i ≡ pool-bytes t j → fuel-bytes s i ≡ fuel-bytes t j
-    → cut (fill-of s out .bytes) (answer-size * i) answer-size ≡ cut (fill-of t pad .bytes) (answer-size * j) answer-size
+    → cut (fill-of s out .elements) (answer-size * i) answer-size ≡ cut (fill-of t pad .elements) (answer-size * j) answer-size
 own s t out pad i j z w h k e p f =
     rw (filled s out z, filled t pad w)
     (own-place s (targets-of s) i _ h ∙ ap ten-bytes (same-shown s t i j e p f) ∙ sym (own-place t (targets-of t) j _ k))
 
 -- "Later bytes of the lent slice keep their values."
-pub later : (s out : List ℕ) → fill-of s out .number ≡ 0 → drop (answer-size * targets-of s) (fill-of s out .bytes) ≡ drop (answer-size * targets-of s) out
+pub later : (s out : List ℕ) → fill-of s out .number ≡ 0 → drop (answer-size * targets-of s) (fill-of s out .elements) ≡ drop (answer-size * targets-of s) out
 later s out z = rw (filled s out z) (drop-at (answers s (targets-of s)) _ (answer-size * targets-of s) (answers-length s (targets-of s)))
 
 -- "Then nothing is written."
-kept-room :
-    (b : Bool) (s out : List ℕ) (t n : ℕ) → either b (untouched 31 out) (written s t out) .number ≡ suc n
-    → either b (untouched 31 out) (written s t out) .bytes ≡ out
-unfolding written
-kept-room true s out t n e = refl
-kept-room false s out t n e = absurd (omega arith)
-
-kept-state :
-    (m t : ℕ) (s out : List ℕ) (n : ℕ) → fill-after (record { state = m; fuels = 0; pools = 0; targets = t }) s out .number ≡ suc n
-    → fill-after (record { state = m; fuels = 0; pools = 0; targets = t }) s out .bytes ≡ out
-unfolding with-room
-kept-state zero t s out n e = kept-room (ltb (length out) (answer-size * t)) s out t n e
-kept-state (suc m) t s out n e = refl
-
-pub kept : (s out : List ℕ) (n : ℕ) → fill-of s out .number ≡ suc n → fill-of s out .bytes ≡ out
+pub kept : (s out : List ℕ) (n : ℕ) → fill-of s out .number ≡ suc n → fill-of s out .elements ≡ out
 unfolding fill-of
-kept s out n e = kept-state (reading-of s .state) (reading-of s .targets) s out n e
+kept s out = lending.kept answer-size (answers s) (reading-of s) out

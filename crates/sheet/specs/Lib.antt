@@ -3,6 +3,7 @@ pub mod Layout
 pub mod Bytes
 pub mod Reading
 pub mod Target
+pub mod Lent
 pub mod Fill
 pub mod Report
 pub mod Benchmarks

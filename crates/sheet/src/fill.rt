@@ -12,7 +12,8 @@ ghost use Prim.Native.Nat.{_+_, _*_, _≤_};
 ghost use lib.ListN.{length};
 ghost use Rattle.sheet.specs.Layout.{answer-size};
 ghost use Rattle.sheet.specs.Reading.{number-of};
-ghost use Rattle.sheet.specs.Fill.{ten-bytes, answers, with-room, fill-of};
+ghost use Rattle.sheet.specs.Lent.{with-room};
+ghost use Rattle.sheet.specs.Fill.{ten-bytes, answers, fill-of};
 ghost use Rattle.sheet.specs.Private.{Sound, shown-by, pasted};
 
 // The numbers of "Reading a sheet".
@@ -57,7 +58,7 @@ fn put_answers(sheet: &[u8], counts: Counts, out: &mut [u8])
 // The fill of an accepted sheet.
 fn fill_accepted(sheet: &[u8], counts: Counts, out: &mut [u8]) -> u8
     requires { ⌜ Sound (now sheet) (counts .fuels) (counts .pools) (counts .targets) ⌝ }
-    ensures { λ r. ⌜ (r ≡ with-room (now (sheet .entry)) (counts .targets) (now (out .entry)) .number) × (now (out .exit) ≡ with-room (now (sheet .entry)) (counts .targets) (now (out .entry)) .bytes) ⌝ }
+    ensures { λ r. ⌜ (r ≡ with-room answer-size (answers (now (sheet .entry))) (counts .targets) (now (out .entry)) .number) × (now (out .exit) ≡ with-room answer-size (answers (now (sheet .entry))) (counts .targets) (now (out .entry)) .elements) ⌝ }
 {
     let targets = counts.targets;
     if out.len() < ANSWER_SIZE * targets {
@@ -70,7 +71,7 @@ fn fill_accepted(sheet: &[u8], counts: Counts, out: &mut [u8]) -> u8
 // Writes ten bytes per target of the sheet and returns 0; or writes nothing and returns the number of the refusal.
 #[no_mangle]
 pub extern "C" fn fill(sheet: &[u8], out: &mut [u8]) -> u8
-    ensures { λ r. ⌜ (r ≡ fill-of (now (sheet .entry)) (now (out .entry)) .number) × (now (out .exit) ≡ fill-of (now (sheet .entry)) (now (out .entry)) .bytes) ⌝ }
+    ensures { λ r. ⌜ (r ≡ fill-of (now (sheet .entry)) (now (out .entry)) .number) × (now (out .exit) ≡ fill-of (now (sheet .entry)) (now (out .entry)) .elements) ⌝ }
 {
     let found = read(sheet);
     match found {

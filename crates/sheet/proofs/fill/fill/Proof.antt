@@ -1,9 +1,10 @@
 -- `fill` meets its contract: the number of the fault, or the fill of an accepted sheet.
 -- Assumes nothing.
 use mathlib.Core.Path.{refl, sym, ap, _∙_}
+use Prim.Native.Nat.{ℕ}
 use Rattle.sheet.specs.declared.reading.Reading.the-variants.{Accepted}
 use Rattle.sheet.specs.Reading.{outcome}
-use Rattle.sheet.specs.Fill.{Filled}
+use Rattle.sheet.specs.Lent.{Lent}
 use Rattle.sheet.proofs.Sections.{sound}
 use Rattle.sheet.proofs.Filling.{fill-refused, fill-accepted}
 use borrow.Author.Needs.{needs}
@@ -32,7 +33,7 @@ returns c =
     let a = c .before .before .before .before .before .before .before .args in
     let n = c .before .before in
     let e = fill-refused (a .sheet .now) (a .out .now) (n .found .given .0 .0) (ap outcome (sym (n .found .given .1)) ∙ n .before .before .read .ensures) in
-    (c .number .ensures ∙ ap (λ (f : Filled). f .number) e, ap (λ (f : Filled). f .bytes) e)
+    (c .number .ensures ∙ ap (λ (f : Lent ℕ). f .number) e, ap (λ (f : Lent ℕ). f .elements) e)
 
 same-length : tie.Need-same-length
 same-length c = search needs
@@ -43,7 +44,7 @@ returns-2 c =
     let w = c .before .before in
     let n = w .before .before .before in
     let e = fill-accepted (a .sheet .now) (a .out .now) (n .found2 .given .0 .0) (ap outcome (sym (n .found2 .given .1)) ∙ n .before .before .read .ensures) in
-    (w .fill-accepted .ensures .0 ∙ ap (λ (f : Filled). f .number) e, w .fill-accepted .ensures .1 ∙ ap (λ (f : Filled). f .bytes) e)
+    (w .fill-accepted .ensures .0 ∙ ap (λ (f : Lent ℕ). f .number) e, w .fill-accepted .ensures .1 ∙ ap (λ (f : Lent ℕ). f .elements) e)
 
 pub fill-spec : {M : Type 1} → statement M
 fill-spec =

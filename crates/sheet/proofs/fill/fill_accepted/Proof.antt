@@ -1,8 +1,12 @@
 -- `fill_accepted` meets its contract: too little room, or the answers of all targets.
 -- Assumes nothing.
 use mathlib.Core.Path.{ap}
-use Rattle.sheet.specs.Fill.{Filled}
-use Rattle.sheet.proofs.Filling.{no-room, room}
+use Prim.Native.Nat.{ℕ}
+use Rattle.sheet.specs.Lent.{Lent}
+use Rattle.sheet.specs.Layout.{answer-size}
+use Rattle.sheet.specs.Fill.{answers}
+use Rattle.sheet.proofs.Lending.{no-room}
+use Rattle.sheet.proofs.Filling.{written}
 use borrow.Author.Needs.{needs}
 use Rattle.sheet.proofs.fill.fill_accepted.Statement.{statement}
 use Rattle.sheet.proofs.fill.fill_accepted.Tie as tie
@@ -17,8 +21,8 @@ mul-if1 c = search needs
 returns : tie.Need-returns
 returns c =
     let a = c .before .before .before .args in
-    let e = no-room (a .sheet .now) (a .out .now) (a .counts .targets) (c .if1 .taken) in
-    (ap (λ (f : Filled). f .number) e, ap (λ (f : Filled). f .bytes) e)
+    let e = no-room answer-size (answers (a .sheet .now)) (a .counts .targets) (a .out .now) (c .if1 .taken) in
+    (ap (λ (f : Lent ℕ). f .number) e, ap (λ (f : Lent ℕ). f .elements) e)
 
 same-length : tie.Need-same-length
 same-length c = search needs
@@ -27,8 +31,8 @@ returns-2 : tie.Need-returns-2
 returns-2 c =
     let a = c .before .before .before .before .before .before .before .args in
     let w = c .before .before in
-    let e = room (a .sheet .now) (a .out .now) _ (a .counts .targets) (w .before .before .if1 .left) (w .put-answers .ensures) in
-    (ap (λ (f : Filled). f .number) e, ap (λ (f : Filled). f .bytes) e)
+    let e = written (a .sheet .now) (a .out .now) _ (a .counts .targets) (w .before .before .if1 .left) (w .put-answers .ensures) in
+    (ap (λ (f : Lent ℕ). f .number) e, ap (λ (f : Lent ℕ). f .elements) e)
 
 pub fill-accepted-spec : {M : Type 1} → statement M
 fill-accepted-spec =
