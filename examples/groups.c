@@ -5,8 +5,8 @@
 
 int main(int argc, char **argv)
 {
-    static uint8_t sheet[SHEET_ROOM];
-    static double groups[GROUP_SIZE * MOST_TARGETS];
+    static uint8_t sheet[DRAWING_SHEET_ROOM];
+    static double groups[DRAWING_GROUP_SIZE * DRAWING_MOST_TARGETS];
     const size_t room = sizeof groups / sizeof groups[0];
 
     FILE *file = argc == 2 ? fopen(argv[1], "rb") : NULL;
@@ -25,7 +25,7 @@ int main(int argc, char **argv)
         printf("sheet %u\n", number);
         return 0;
     }
-    for (size_t i = 0; i < room && groups[i] >= 0; i += GROUP_SIZE)
-        printf("%zu %.0f %.1f %.0f\n", i / GROUP_SIZE, groups[i], groups[i + 1], groups[i + 2]);
+    for (size_t i = 0; i < room && groups[i] >= 0; i += DRAWING_GROUP_SIZE)
+        printf("%zu %.0f %.1f %.0f\n", i / DRAWING_GROUP_SIZE, groups[i], groups[i + 1], groups[i + 2]);
     return 0;
 }

@@ -5,12 +5,16 @@
 #include <stddef.h>
 #include <stdint.h>
 
-/* A target's group is three doubles in W/m²: low, middle and high. A sheet has at most 512 targets. */
-#define GROUP_SIZE 3
-#define MOST_TARGETS 512
+#ifdef __cplusplus
+extern "C" {
+#endif
 
-/* The longest sheet has 7,494 bytes. A host that reads one byte more at most loses nothing: a longer sheet gets the same answer. */
-#define SHEET_ROOM 7495
+/* A target's group is three doubles in W/m²: low, middle and high. A sheet has at most 512 targets. */
+#define DRAWING_GROUP_SIZE 3
+#define DRAWING_MOST_TARGETS 512
+
+/* The longest sheet has 7,494 bytes. A host need read one byte more at most: a longer input gets the same answer as its front. */
+#define DRAWING_SHEET_ROOM 7495
 
 /*
  * Writes the groups of the sheet's targets, in their order, from the front of out, and returns 0. A refused target's group is three
@@ -23,5 +27,9 @@
  * elements. The two arrays must be valid and must not overlap; none is kept. No call needs another, and calls may run side by side.
  */
 uint8_t fill_groups(const uint8_t *sheet, size_t sheet_len, double *out, size_t out_len);
+
+#ifdef __cplusplus
+}
+#endif
 
 #endif

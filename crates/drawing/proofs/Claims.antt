@@ -13,7 +13,7 @@ use Rattle.sheet.specs.Layout.{most-targets}
 use Rattle.sheet.specs.Reading.{reading-of}
 use Rattle.sheet.specs.Target.{enquiry-of, shown-of}
 use Rattle.sheet.proofs.Sections.{few-targets}
-use Rattle.sheet.proofs.Lending.{returned-0}
+use Rattle.sheet.proofs.Lending.{returned-0, kept}
 use Rattle.drawing.specs.declared.figures.Ends.{Ends}
 use Rattle.drawing.specs.declared.figures.Ends.the-variants.{Answered, Refused}
 use Rattle.drawing.specs.declared.figures.Group.{Group}
@@ -83,6 +83,10 @@ few : (s : List ℕ) → groups-of s .count ≤ most-targets
 unfolding groups-of
 few = few-targets
 
+refused-kept : (s : List ℕ) (out : List Float) (n : ℕ) → fill-groups-of s out .number ≡ suc n → fill-groups-of s out .elements ≡ out
+unfolding fill-groups-of
+refused-kept s out = kept group-size (λ n. laid-out (listed (group-at s) n)) (reading-of s) out
+
 written-plain :
     (s : List ℕ) (out : List Float) → fill-groups-of s out .number ≡ 0 → (i : ℕ) → i < group-size * reading-of s .targets → (other : Float)
     → plain (getD (fill-groups-of s out .elements) i other) ≡ true
@@ -100,5 +104,6 @@ claims =
       ends-plain = enquiry-ends-plain;
       few = few;
       groups-plain = sheet-plain;
+      refused-kept = refused-kept;
       fill-plain = written-plain;
     }

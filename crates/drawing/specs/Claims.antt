@@ -1,6 +1,6 @@
 -- Request 4: "That value is exact for these sizes, and a user should be able to rely on it." What is claimed of the floats, for every
 -- whole number, every enquiry and every sheet.
-use Prim.Native.Nat.{ℕ, _+_, _*_, _≤_, _<_}
+use Prim.Native.Nat.{ℕ, suc, _+_, _*_, _≤_, _<_}
 use mathlib.Core.Path.{_≡_}
 use mathlib.Core.Bool.{Bool, true, _&&_}
 use mathlib.Core.List.{List}
@@ -57,6 +57,7 @@ pub record Claims : Type 0 where
   pub few : (s : List ℕ) → groups-of s .count ≤ most-targets
   pub groups-plain :
       (s : List ℕ) (i : ℕ) → i < most-targets → (other : Group) → plain-group (getD (groups-of s .groups) i other) ≡ true
+  pub refused-kept : (s : List ℕ) (out : List Float) (n : ℕ) → fill-groups-of s out .number ≡ suc n → fill-groups-of s out .elements ≡ out
   pub fill-plain :
       (s : List ℕ) (out : List Float) → fill-groups-of s out .number ≡ 0 → (i : ℕ) → i < group-size * reading-of s .targets
       → (other : Float) → plain (getD (fill-groups-of s out .elements) i other) ≡ true

@@ -17,5 +17,6 @@ unfoldable pub answers : List ℕ → ℕ → List ℕ
 answers s zero = []
 answers s (suc n) = answers s n ++ ten-bytes (shown-of s n)
 
+-- "1 to 5 as in reading; then 31, fewer than 10 bytes per target. Then nothing is written and that number is returned; otherwise 0."
 unfoldable pub fill-of : List ℕ → List ℕ → Lent ℕ
 fill-of s out = lent (reading-of s) answer-size (answers s) out
