@@ -23,8 +23,8 @@ fn put(sheet: &mut Vec<u8>, size: usize, n: u64) {
     sheet.extend_from_slice(&n.to_be_bytes()[8 - size..]);
 }
 
-/// A sheet with all numbers inside the limits and flames that are high enough. The pools have methods 1 and 2 by turns.
-fn sheet(x: &mut u64, pools: u64, first_method: u64, off_the_floor: bool) -> Vec<u8> {
+/// A sheet with all numbers inside the limits and flames that are high enough. The pools have these methods by turns.
+fn sheet(x: &mut u64, pools: u64, methods: &[u64], first: u64, off_the_floor: bool) -> Vec<u8> {
     let mut s = Vec::new();
     put(&mut s, 2, pools);
     for _ in 0..pools {
@@ -36,7 +36,7 @@ fn sheet(x: &mut u64, pools: u64, first_method: u64, off_the_floor: bool) -> Vec
     for i in 0..pools {
         put(&mut s, 4, between(x, 100, 50_000));
         put(&mut s, 2, i);
-        put(&mut s, 1, 1 + (first_method + i) % 2);
+        put(&mut s, 1, methods[(first + i) as usize % methods.len()]);
     }
     put(&mut s, 2, TARGETS);
     for _ in 0..TARGETS {
@@ -87,14 +87,16 @@ pub fn table() -> bool {
     println!("| {SHEETS} sheets of {TARGETS} targets | answered | Rattle, µs each | Rust, µs each | times faster |");
     println!("|---|---|---|---|---|");
     let mut agree = true;
-    for (pools, heights, name) in [
-        (64, false, "64 pools, height 0"),
-        (64, true, "64 pools, any height"),
-        (1, false, "1 pool, height 0"),
-        (1, true, "1 pool, any height"),
+    for (pools, methods, heights, name) in [
+        (64, [1, 2], false, "64 pools, height 0"),
+        (64, [1, 2], true, "64 pools, any height"),
+        (1, [1, 2], false, "1 pool, height 0"),
+        (1, [1, 2], true, "1 pool, any height"),
+        (64, [3, 3], false, "64 smoky pools, height 0"),
+        (64, [3, 3], true, "64 smoky pools, any height"),
     ] {
         let mut x = 88_172_645_463_325_252 + pools;
-        let sheets: Vec<Vec<u8>> = (0..SHEETS).map(|i| sheet(&mut x, pools, i, heights)).collect();
+        let sheets: Vec<Vec<u8>> = (0..SHEETS).map(|i| sheet(&mut x, pools, &methods, i, heights)).collect();
         agree = compared(name, &sheets) && agree;
     }
     agree

@@ -3,10 +3,10 @@
 -- pairs. Assumes nothing.
 use mathlib.Core.Path.{_≡_, subst, ap}
 use mathlib.Core.Bool.{true, false, not}
-use Prim.Native.Nat.{_*_, _≤_}
+use Prim.Native.Nat.{ℕ, _*_, _≤_}
 use native.Mathlib.Nat.{le-trans, mul-le-mul-left}
 use native.Mathlib.Omega.{arith}
-use lib.Dec.{eqb, lit<}
+use lib.Dec.{T, eqb, lit<}
 use borrow.Author.Tests.{ltb-false}
 use lib.IntN.{natAbs}
 use lib.Signed.{nonNeg}
@@ -15,7 +15,7 @@ use Rattle.pairs.specs.Figures.{Figures, given}
 use Rattle.pairs.specs.Answers.{answers}
 use Rattle.pairs.proofs.Agreement.{agreed, agreement}
 use Rattle.chain.specs.declared.enquiry.Enquiry.{Enquiry}
-use Rattle.chain.specs.Chain.{diameter-of, unabsorbed-of, heat-release-of, flame-height-of, emissive-power-1, emissive-power-2, emissive-power-of, emissive-power, relative-height-of, relative-elevation-of, relative-distance-of, configuration-factor-of, transmitted, clear-flux, radiant-flux}
+use Rattle.chain.specs.Chain.{diameter-of, unabsorbed-of, heat-release-of, flame-of, flame-height-of, emissive-power-of, relative-height-of, relative-elevation-of, relative-distance-of, configuration-factor-of, transmitted, clear-flux, radiant-flux}
 use Rattle.chain.specs.Flux.{outside, fuel-within, flame-too-low, stage-too-large, low-of, high-of, note-of, flux-of, Shown}
 use Rattle.chain.specs.Private.{Limited, Spaced}
 use Rattle.chain.proofs.Bounds as B
@@ -25,7 +25,8 @@ use Rattle.chain.proofs.Within.{Held, within}
 use Rattle.chain.proofs.Steps.{diameter-of-kept, unabsorbed-of-kept, heat-release-of-kept, flame-height-of-kept, clear-flux-kept, radiant-flux-kept}
 use Rattle.chain.proofs.Boxes.{known, passing, passed, times-over-held, either}
 use Rattle.chain.proofs.Configuration.{relative-height-bound, elevation-bound, relative-distance-bound, spaced, factor-at-held}
-use Rattle.chain.proofs.Flame.{emissive-bound-1, emissive-bound-2, Area}
+use Rattle.chain.proofs.Flame.{emissive-bound-1, emissive-bound-2, emissive-bound-3, emissive-bound, High}
+use Rattle.chain.proofs.AreaBox.{Area}
 use Rattle.chain.proofs.Areas.{areas}
 use Rattle.chain.proofs.Haze.{transmitted-ordered, transmitted-high}
 use Rattle.chain.proofs.Limits.{Tested, between, fuel, height, transmissivity, past-tests, tested-shown}
@@ -40,6 +41,10 @@ pub record Unrefused (E : Enquiry) : Type 0 where
 pub area-of : (E : Enquiry) → not (fuel-within E) ≡ false → outside 100 190_000 (E .area) ≡ false → Area E
 area-of E f a = let w = between 100 190_000 (E .area) a in areas E (w .low) (w .high) (fuel E f)
 
+flame-not-refused : (E : Enquiry) → Area E → (flame-height-of answers E) .number ≡ 0
+unfolding flame-height-of
+flame-not-refused E s = s .flame .not-refused
+
 pub within-limits-not-refused : (E : Enquiry) → not (fuel-within E) ≡ false → outside 100 190_000 (E .area) ≡ false → Unrefused E
 within-limits-not-refused E f a =
     let s = area-of E f a in
@@ -47,7 +52,7 @@ within-limits-not-refused E f a =
       diameter-given = agreed (diameter-of-kept agreement E) (s .diameter .given);
       unabsorbed-given = agreed (unabsorbed-of-kept agreement E) (s .unabsorbed .given);
       heat-release-given = agreed (heat-release-of-kept agreement E) (s .heat-release);
-      flame-height-given = agreed (flame-height-of-kept agreement E) (s .flame .not-refused);
+      flame-height-given = agreed (flame-height-of-kept agreement E) (flame-not-refused E s);
     }
 
 -- ---- where no number from 11 to 16 applies, nor 18 or 19
@@ -56,13 +61,19 @@ unfolding flame-too-low
 high-enough E h e =
     rw (h .diameter-given, h .flame-height-given) (ltb-false (4 * (flame-height-of rounded E) .low) ((diameter-of rounded E) .high) e)
 
+-- The flame, by the method of the enquiry.
+pub high-flame : (E : Enquiry) → Tested E → High E (flame-of answers E) (emissive-bound (E .method))
+unfolding flame-height-of
+high-flame E t =
+    let w = t .limited in
+    area-of E (w .fuel) (w .area) .flame .high (high-enough E (within-limits-not-refused E (w .fuel) (w .area)) (t .flame))
+
 -- What the sweeps say of E, l, h and e.
 pub record Bounded (E : Enquiry) : Type 0 where
   pub height : Held (relative-height-of answers E) relative-height-bound
   pub elevation : Held (relative-elevation-of answers E) elevation-bound
   pub distance : Held (relative-distance-of answers E) relative-distance-bound
-  pub power-1 : Held (emissive-power-1 answers (diameter-of answers E)) emissive-bound-1
-  pub power-2 : Held (emissive-power-2 answers (diameter-of answers E) (heat-release-of answers E) (flame-height-of answers E)) emissive-bound-2
+  pub power : Held (emissive-power-of answers E) (emissive-bound (E .method))
 
 distance-held : (E : Enquiry) → Limited E → Held (relative-distance-of answers E) relative-distance-bound
 distance-held E w =
@@ -73,26 +84,30 @@ pub distance-spaced : (E : Enquiry) → Limited E → Spaced (relative-distance-
 distance-spaced E w = spaced (distance-held E w)
 
 pub bounded : (E : Enquiry) → Tested E → Bounded E
-unfolding relative-elevation-of
+unfolding relative-height-of relative-elevation-of flame-height-of emissive-power-of
 bounded E t =
     let w = t .limited in
-    let s = area-of E (w .fuel) (w .area) in
-    let f = s .flame .high (high-enough E (within-limits-not-refused E (w .fuel) (w .area)) (t .flame)) in
+    let f = high-flame E t in
     record {
       height = f .height;
-      elevation = s .elevation (natAbs (E .height)) (height (E .height) (w .height));
+      elevation = area-of E (w .fuel) (w .area) .elevation (natAbs (E .height)) (height (E .height) (w .height));
       distance = distance-held E w;
-      power-1 = s .power;
-      power-2 = f .power;
+      power = f .power;
     }
 
 -- E·F in trillionths of a kW/m², whatever the method, the face and the height.
 abbrev clear-bound : Bound
 clear-bound = record { least = 0; most = 6_300 * U; width = 2_000 * U; safe = true }
 
+-- Method 2 has the widest span.
+widest : (method : ℕ) → T (passing emissive-bound-2 (emissive-bound method))
+unfolding emissive-bound passing
+widest method =
+    let P : Bound → Type 0 = λ b. T (passing emissive-bound-2 b) in
+    either P (eqb method 1) {x = emissive-bound-1} tt (either P (eqb method 2) {x = emissive-bound-2} {y = emissive-bound-3} tt tt)
+
 power-held : (E : Enquiry) → Bounded E → Held (emissive-power-of answers E) emissive-bound-2
-unfolding emissive-power-of emissive-power passing
-power-held E s = either (λ f. Held f emissive-bound-2) (eqb (E .method) 1) (passed emissive-bound-2 tt (known (s .power-1))) (s .power-2)
+power-held E s = passed emissive-bound-2 (widest (E .method)) (known (s .power))
 
 clear-held : (E : Enquiry) → Tested E → Held (clear-flux answers E) clear-bound
 unfolding clear-flux configuration-factor-of passing B.product bound up down

@@ -1,20 +1,21 @@
 -- Every area inside its limits: what the steps up to the flame give, and where the flame is not too low, l and E.
--- By one sweep over the area, and in it one over the heat release rate. Assumes nothing.
+-- By one sweep over the area, and in it one over the heat release rate and one over the burning rate. Assumes nothing.
 use mathlib.Core.Path.{_≡_, refl}
 use Prim.Native.Nat.{ℕ, _+_, _/_, _≤_, min}
 use native.Mathlib.Omega.{arith}
 use lib.Dec.{T}
 use Rattle.chain.proofs.Opened.{opened}
 use Rattle.chain.proofs.Sweep.{sweep, swept}
-use Rattle.chain.proofs.Heat.{heat-width}
-use Rattle.chain.proofs.Flame.{not-too-low, flame-test, next-heat, heat-box, area-test, Fuel, Area, area-tested}
+use Rattle.chain.proofs.Burning.{burning-width}
+use Rattle.chain.proofs.Flame.{not-too-low, flame-test}
+use Rattle.chain.proofs.AreaBox.{heat-box, mass-box, next-heat, area-test, Fuel, Area, area-tested}
 use Rattle.chain.specs.declared.enquiry.Enquiry.{Enquiry}
 
 abbrev pub next-area : ℕ → ℕ
 next-area a = min (a + a / 2) 190_001
 
 area-sweep : T (sweep area-test next-area 40 100 190_001)
-unfolding opened area-test flame-test not-too-low next-heat heat-box heat-width
+unfolding opened area-test flame-test not-too-low next-heat heat-box mass-box burning-width
 area-sweep = tt
 
 pub areas : (E : Enquiry) → 100 ≤ E .area → E .area ≤ 190_000 → Fuel E → Area E

@@ -5,17 +5,18 @@ use mathlib.Core.Bool.{false, _&&_, not}
 use Prim.Native.Nat.{ℕ, _*_, _≤_}
 use native.Mathlib.Nat.{le-trans, mul-le-mul-left}
 use lib.IntN.{ℤ, pos, negsuc}
-use lib.Dec.{T, leb, leb→le}
+use lib.Dec.{T, leb, eqb, leb→le}
 use lib.Ieee.Fits.{and-l, and-r}
 use borrow.Author.Tests.{le-ltb}
 use Rattle.pairs.specs.Rounded.{rounded}
 use Rattle.pairs.specs.Answers.{answers}
 use Rattle.chain.specs.declared.enquiry.Enquiry.{Enquiry}
-use Rattle.chain.specs.Chain.{diameter-of, flame-height-of}
+use Rattle.chain.specs.Chain.{Flame, diameter-of, flame-1-of, flame-2-of, flame-3-of, flame-of, flame-height-of}
 use Rattle.chain.specs.Flux.{outside, fuel-within, height-outside, flame-too-low, flux-of, Shown}
-use Rattle.chain.proofs.Bounds.{bounds}
+use Rattle.chain.proofs.Bounds.{Bound, bounds}
 use Rattle.chain.proofs.Within.{within}
 use Rattle.chain.proofs.Steps.{diameter-of-kept, flame-height-of-kept}
+use Rattle.chain.proofs.Boxes.{either}
 use Rattle.chain.proofs.Opened.{opened}
 use Rattle.chain.proofs.Limits.{Tested}
 use Rattle.chain.proofs.Accepted.{within-limits-not-refused, shown}
@@ -34,32 +35,38 @@ example method face height transmissivity =
       transmissivity = transmissivity;
     }
 
+-- The flame of the pool is high enough by each method: nothing in it depends on the face, the height or the haze.
+abbrev Tall : Flame Bound → Type 0
+Tall f =
+    let D = diameter-of bounds (example 1 1 (pos 0) 1) in
+    T (D .safe && (f .height) .safe && leb (D .most) (4 * (f .height) .least))
+
 module _ (method face : ℕ) (height : ℤ) (transmissivity : ℕ) where
   abbrev E : Enquiry
   E = example method face height transmissivity
 
-  safe : T ((diameter-of bounds E) .safe && (flame-height-of bounds E) .safe && leb ((diameter-of bounds E) .most) (4 * (flame-height-of bounds E) .least))
-  unfolding opened
-  safe = tt
+  tall : Tall (flame-of bounds E)
+  unfolding opened flame-of flame-1-of flame-2-of flame-3-of
+  tall = either Tall (eqb method 1) {x = flame-1-of bounds E} tt (either Tall (eqb method 2) {x = flame-2-of bounds E} {y = flame-3-of bounds E} tt tt)
 
   fuel-fits : not (fuel-within E) ≡ false
   unfolding fuel-within
   fuel-fits = refl
 
   flame-fits : flame-too-low E ≡ false
-  unfolding flame-too-low
+  unfolding flame-too-low diameter-of flame-height-of
   flame-fits =
       let D = diameter-of bounds E in
       let L = flame-height-of bounds E in
-      let t = safe in
+      let t = tall in
       let d = diameter-of-kept within E .where-safe (and-l (D .safe) (L .safe) (and-l (D .safe && L .safe) (leb (D .most) (4 * L .least)) t)) in
       let l = flame-height-of-kept within E .where-safe (and-r (D .safe) (L .safe) (and-l (D .safe && L .safe) (leb (D .most) (4 * L .least)) t)) in
-      let tall = leb→le (D .most) (4 * L .least) (and-r (D .safe && L .safe) (leb (D .most) (4 * L .least)) t) in
+      let most = leb→le (D .most) (4 * L .least) (and-r (D .safe && L .safe) (leb (D .most) (4 * L .least)) t) in
       let same = within-limits-not-refused E fuel-fits refl in
-      let high : (diameter-of answers E) .pair .high ≤ 4 * (flame-height-of answers E) .pair .low = le-trans (d .inside .high) (le-trans tall (mul-le-mul-left 4 (l .inside .low))) in
+      let high : (diameter-of answers E) .pair .high ≤ 4 * (flame-height-of answers E) .pair .low = le-trans (d .inside .high) (le-trans most (mul-le-mul-left 4 (l .inside .low))) in
       le-ltb (4 * (flame-height-of rounded E) .low) ((diameter-of rounded E) .high) (rw (same .diameter-given, same .flame-height-given) at high)
 
-  module _ (m : outside 1 2 method ≡ false) (f : outside 1 3 face ≡ false) (h : height-outside height ≡ false) (t : outside 1 1_000 transmissivity ≡ false) where
+  module _ (m : outside 1 3 method ≡ false) (f : outside 1 3 face ≡ false) (h : height-outside height ≡ false) (t : outside 1 1_000 transmissivity ≡ false) where
     example-tested : Tested E
     example-tested =
         record {
@@ -72,7 +79,7 @@ module _ (method face : ℕ) (height : ℤ) (transmissivity : ℕ) where
     each-accepted = ap (λ (s : Shown). s .state) (shown E example-tested)
 
 -- So from the base up, at the base and below it, through any haze.
-module _ (method face transmissivity : ℕ) (m : outside 1 2 method ≡ false) (f : outside 1 3 face ≡ false) (t : outside 1 1_000 transmissivity ≡ false) where
+module _ (method face transmissivity : ℕ) (m : outside 1 3 method ≡ false) (f : outside 1 3 face ≡ false) (t : outside 1 1_000 transmissivity ≡ false) where
   pub above-accepted : (flux-of (example method face (pos 2_000) transmissivity)) .state ≡ 0
   unfolding height-outside
   above-accepted = each-accepted method face (pos 2_000) transmissivity m f refl t

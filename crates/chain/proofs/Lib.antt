@@ -9,9 +9,10 @@ pub mod Opened
 pub mod Exponential
 pub mod FactorSweep
 pub mod Configuration
-pub mod Heat
+pub mod Burning
 pub mod Radii
 pub mod Flame
+pub mod AreaBox
 pub mod Areas
 pub mod Haze
 pub mod Limits

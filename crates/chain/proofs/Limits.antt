@@ -11,7 +11,7 @@ use Rattle.pairs.proofs.Tests.{past-test}
 use Rattle.chain.specs.declared.enquiry.Enquiry.{Enquiry}
 use Rattle.chain.specs.Flux.{Shown, outside, fuel-within, height-outside, flame-too-low, stage-too-large, low-of, high-of, note-of, flux-of}
 use Rattle.chain.specs.Private.{Limited}
-use Rattle.chain.proofs.Flame.{Fuel}
+use Rattle.chain.proofs.AreaBox.{Fuel}
 
 -- No number from 11 to 16 applies, nor 18 or 19.
 pub record Tested (E : Enquiry) : Type 0 where
@@ -42,9 +42,11 @@ pub fuel : (E : Enquiry) → not (fuel-within E) ≡ false → Fuel E
 unfolding fuel-within
 fuel E e =
     let t = three (outside 10 150 (E .rate)) (outside 10 500 (E .absorption)) (outside 100 500 (E .heat)) e in
+    let m = between 10 150 (E .rate) (t .0) in
     let k = between 10 500 (E .absorption) (t .1) in
     record {
-      rate = between 10 150 (E .rate) (t .0) .high;
+      least-rate = m .low;
+      most-rate = m .high;
       least-absorption = k .low;
       most-absorption = k .high;
       heat = between 100 500 (E .heat) (t .2) .high;
@@ -65,7 +67,7 @@ past-tests E k other e =
     let P : Shown → Type 0 = λ s. s .state ≡ k in
     let t11 = past-test P (not (fuel-within E)) (other 11 (lit≤ tt) (lit≤ tt) (λ z. omega (arith, z))) e in
     let t12 = past-test P (outside 100 190_000 (E .area)) (other 12 (lit≤ tt) (lit≤ tt) (λ z. omega (arith, z))) (t11 .1) in
-    let t13 = past-test P (outside 1 2 (E .method)) (other 13 (lit≤ tt) (lit≤ tt) (λ z. omega (arith, z))) (t12 .1) in
+    let t13 = past-test P (outside 1 3 (E .method)) (other 13 (lit≤ tt) (lit≤ tt) (λ z. omega (arith, z))) (t12 .1) in
     let t14 = past-test P (outside 1_000 200_000 (E .distance)) (other 14 (lit≤ tt) (lit≤ tt) (λ z. omega (arith, z))) (t13 .1) in
     let t15 = past-test P (outside 1 3 (E .face)) (other 15 (lit≤ tt) (lit≤ tt) (λ z. omega (arith, z))) (t14 .1) in
     let t18 = past-test P (height-outside (E .height)) (other 18 (lit≤ tt) (lit≤ tt) (λ z. omega (arith, z))) (t15 .1) in

@@ -1,19 +1,24 @@
 -- A relation between two arithmetics that each operation keeps is kept by every step of the chain, from the steps before it,
 -- and so by the chain of one enquiry. By a walk over the definitions. Assumes nothing.
 use mathlib.Core.Bool.{Bool, true, false}
-use Prim.Native.Nat.{ℕ, _*_}
+use Prim.Native.Nat.{ℕ, zero, suc, _*_}
 use lib.Dec.{eqb}
 use lib.IntN.{natAbs}
 use lib.Signed.{nonNeg}
 use Rattle.pairs.specs.Arithmetic.{Arithmetic}
 use Rattle.pairs.proofs.Kept.{Kept, one-kept, atan-kept, pi-kept, exp-neg-kept, ln-ten-kept}
 use Rattle.chain.specs.declared.enquiry.Enquiry.{Enquiry}
-use Rattle.chain.specs.Chain.{diameter, radius, optical-depth, unabsorbed, heat-release, flame-height, emissive-power-1, radiant-fraction, flame-surface, emissive-power-2, emissive-power, in-radii, diameter-of, unabsorbed-of, heat-release-of, flame-height-of, emissive-power-of, relative-height-of, relative-distance-of, relative-elevation-of, x, g, r, u, v, tilt, height-angle, vertical-ratio, vertical, horizontal-ratio, horizontal, by-face, factor, vertical-above, horizontal-above, vertical-below, horizontal-below, factor-at, transmitted, configuration-factor-of, clear-flux, radiant-flux}
+use Rattle.chain.specs.Chain.{Flame, diameter, radius, optical-depth, unabsorbed, burning, flame-height, emissive-power-1, radiant-fraction, flame-surface, emissive-power-2, froude-number, equal-factors, power-61-hundredths, flame-height-3, unobscured, emissive-power-3, in-radii, diameter-of, unabsorbed-of, heat-release-of, froude-number-of, flame-1-of, flame-2-of, flame-3-of, flame-of, flame-height-of, emissive-power-of, relative-height-of, relative-distance-of, relative-elevation-of, x, g, r, u, v, tilt, height-angle, vertical-ratio, vertical, horizontal-ratio, horizontal, by-face, factor, vertical-above, horizontal-above, vertical-below, horizontal-below, factor-at, transmitted, configuration-factor-of, clear-flux, radiant-flux}
 
 -- The same choice on both sides.
 pub choice-kept : {X Y : Type 0} (R : X → Y → Type 0) (b : Bool) {p q : X} {c d : Y} → R p c → R q d → R (elim b [ true ↦ p | false ↦ q ]) (elim b [ true ↦ c | false ↦ d ])
 choice-kept R true h k = h
 choice-kept R false h k = k
+
+-- Both of the height and of the emissive power of two flames.
+pub record Both {X Y : Type 0} (R : X → Y → Type 0) (f : Flame X) (g : Flame Y) : Type 0 where
+  pub height : R (f .height) (g .height)
+  pub power : R (f .power) (g .power)
 
 module _ {A B : Arithmetic} {R : A .Carrier → B .Carrier → Type 0} (K : Kept A B R) where
   -- ---- steps 1 to 6
@@ -25,9 +30,9 @@ module _ {A B : Arithmetic} {R : A .Carrier → B .Carrier → Type 0} (K : Kept
   unfolding unabsorbed optical-depth
   unabsorbed-kept k d = exp-neg-kept K (K .over (K .times d k) 100)
 
-  pub heat-release-kept : {c X : A .Carrier} {c′ X′ : B .Carrier} → R c c′ → R X X′ → R (heat-release A c X) (heat-release B c′ X′)
-  unfolding heat-release
-  heat-release-kept h k = K .product h (K .difference (one-kept K) k)
+  pub burning-kept : {c X : A .Carrier} {c′ X′ : B .Carrier} → R c c′ → R X X′ → R (burning A c X) (burning B c′ X′)
+  unfolding burning
+  burning-kept h k = K .product h (K .difference (one-kept K) k)
 
   pub flame-height-kept : {D Q : A .Carrier} {D′ Q′ : B .Carrier} → R D D′ → R Q Q′ → R (flame-height A D Q) (flame-height B D′ Q′)
   unfolding flame-height
@@ -44,6 +49,26 @@ module _ {A B : Arithmetic} {R : A .Carrier → B .Carrier → Type 0} (K : Kept
   emissive-power-2-kept d q l =
       K .quotient (K .product (K .difference (K .constant 21 100) (K .product (K .constant 34 10000) d)) q)
       (K .sum (K .product (K .product (pi-kept K) d) l) (K .over (K .product (pi-kept K) (K .product d d)) 4))
+
+  pub froude-number-kept : {D M : A .Carrier} {D′ M′ : B .Carrier} → R D D′ → R M M′ → R (froude-number A D M) (froude-number B D′ M′)
+  unfolding froude-number
+  froude-number-kept d m = K .quotient m (K .product (K .constant 12 10) (K .root (K .product (K .constant 981 100) d)))
+
+  equal-factors-kept : {b : A .Carrier} {c : B .Carrier} → R b c → (n : ℕ) → R (equal-factors A b n) (equal-factors B c n)
+  unfolding equal-factors
+  equal-factors-kept h zero = h
+  equal-factors-kept h (suc n) = K .product (equal-factors-kept h n) h
+
+  pub flame-height-3-kept : {D w : A .Carrier} {D′ w′ : B .Carrier} → R D D′ → R w w′ → R (flame-height-3 A D w) (flame-height-3 B D′ w′)
+  unfolding flame-height-3 power-61-hundredths
+  flame-height-3-kept d w =
+      K .product (K .times d 42) (equal-factors-kept (K .fifth-root (K .fifth-root (K .root (K .root w)))) 60)
+
+  pub emissive-power-3-kept : {D : A .Carrier} {D′ : B .Carrier} → R D D′ → R (emissive-power-3 A D) (emissive-power-3 B D′)
+  unfolding emissive-power-3 unobscured
+  emissive-power-3-kept d =
+      let x = exp-neg-kept K (K .product (K .constant 2 10) d) in
+      K .sum (K .times x 140) (K .times (K .difference (one-kept K) x) 20)
 
   pub in-radii-kept : {t D : A .Carrier} {t′ D′ : B .Carrier} → R t t′ → R D D′ → R (in-radii A t D) (in-radii B t′ D′)
   unfolding in-radii radius
@@ -140,17 +165,41 @@ module _ {A B : Arithmetic} {R : A .Carrier → B .Carrier → Type 0} (K : Kept
 
     pub heat-release-of-kept : R (heat-release-of A E) (heat-release-of B E)
     unfolding heat-release-of
-    heat-release-of-kept = heat-release-kept (K .constant (E .rate * E .heat * E .area) 1000) unabsorbed-of-kept
+    heat-release-of-kept = burning-kept (K .constant (E .rate * E .heat * E .area) 1000) unabsorbed-of-kept
+
+    froude-number-of-kept : R (froude-number-of A E) (froude-number-of B E)
+    unfolding froude-number-of
+    froude-number-of-kept = froude-number-kept diameter-of-kept (burning-kept (K .constant (E .rate) 1000) unabsorbed-of-kept)
+
+    -- L and E of each method, and of the method of the enquiry.
+    flame-1-of-kept : Both R (flame-1-of A E) (flame-1-of B E)
+    unfolding flame-1-of
+    flame-1-of-kept =
+        record { height = flame-height-kept diameter-of-kept heat-release-of-kept; power = emissive-power-1-kept diameter-of-kept }
+
+    flame-2-of-kept : Both R (flame-2-of A E) (flame-2-of B E)
+    unfolding flame-2-of
+    flame-2-of-kept =
+        let l = flame-height-kept diameter-of-kept heat-release-of-kept in
+        record { height = l; power = emissive-power-2-kept diameter-of-kept heat-release-of-kept l }
+
+    flame-3-of-kept : Both R (flame-3-of A E) (flame-3-of B E)
+    unfolding flame-3-of
+    flame-3-of-kept =
+        record { height = flame-height-3-kept diameter-of-kept froude-number-of-kept; power = emissive-power-3-kept diameter-of-kept }
+
+    flame-of-kept : Both R (flame-of A E) (flame-of B E)
+    unfolding flame-of
+    flame-of-kept =
+        choice-kept (Both R) (eqb (E .method) 1) flame-1-of-kept (choice-kept (Both R) (eqb (E .method) 2) flame-2-of-kept flame-3-of-kept)
 
     pub flame-height-of-kept : R (flame-height-of A E) (flame-height-of B E)
     unfolding flame-height-of
-    flame-height-of-kept = flame-height-kept diameter-of-kept heat-release-of-kept
+    flame-height-of-kept = flame-of-kept .height
 
     pub emissive-power-of-kept : R (emissive-power-of A E) (emissive-power-of B E)
-    unfolding emissive-power-of emissive-power
-    emissive-power-of-kept =
-        choice-kept R (eqb (E .method) 1) (emissive-power-1-kept diameter-of-kept)
-        (emissive-power-2-kept diameter-of-kept heat-release-of-kept flame-height-of-kept)
+    unfolding emissive-power-of
+    emissive-power-of-kept = flame-of-kept .power
 
     pub relative-height-of-kept : R (relative-height-of A E) (relative-height-of B E)
     unfolding relative-height-of

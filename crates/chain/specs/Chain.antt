@@ -1,7 +1,7 @@
--- Document 01, "Chain": steps 1 to 8 over any arithmetic, each with its formula in ISO 24678-7; with the heights of request 1 and
--- the haze of request 3.
+-- Document 01, "Chain": steps 1 to 8 over any arithmetic, each with its formula in ISO 24678-7; with the heights of request 1, the
+-- haze of request 3 and the smoky fuels of request 5, whose formulas are those of source document 004.
 -- A height is an integer: `natAbs` is its magnitude, `nonNeg` says that it is not negative.
-use Prim.Native.Nat.{ℕ, _*_}
+use Prim.Native.Nat.{ℕ, zero, suc, _*_}
 use mathlib.Core.Bool.{Bool, true, false}
 use lib.Dec.{eqb}
 use lib.IntN.{natAbs}
@@ -9,6 +9,11 @@ use lib.Signed.{nonNeg}
 use Rattle.pairs.specs.Arithmetic.{Arithmetic}
 use Rattle.pairs.specs.Series.{one, atan, pi, exp-neg, ln-ten}
 use Rattle.chain.specs.declared.enquiry.Enquiry.{Enquiry}
+
+-- A flame over a pool: its height L and its emissive power E.
+pub record Flame (Carrier : Type 0) : Type 0 where
+  pub height : Carrier
+  pub power : Carrier
 
 module _ (A : Arithmetic) where
   -- ---- the steps, each from what it takes of the steps before it
@@ -26,9 +31,10 @@ module _ (A : Arithmetic) where
   unfoldable pub unabsorbed : ℕ → A .Carrier → A .Carrier
   unabsorbed k D = exp-neg A (optical-depth k D)
 
-  -- 3. "Q = (m·c·a/1000)·(1-X), in kW; the first factor is taken as one exact pair." (A.3, A.4) Here it is supply.
-  unfoldable pub heat-release : A .Carrier → A .Carrier → A .Carrier
-  heat-release supply X = A .product supply (A .difference (one A) X)
+  -- 3. "Q = (m·c·a/1000)·(1-X), in kW; the first factor is taken as one exact pair." (A.3, A.4) Here it is full, the rate of a
+  -- large pool.
+  unfoldable pub burning : A .Carrier → A .Carrier → A .Carrier
+  burning full X = A .product full (A .difference (one A) X)
 
   -- 4. "s = fifth root of Q; L = 0.235·(s·s) - 1.02·D." (A.10)
   unfoldable pub flame-height : A .Carrier → A .Carrier → A .Carrier
@@ -50,8 +56,31 @@ module _ (A : Arithmetic) where
   unfoldable pub emissive-power-2 : A .Carrier → A .Carrier → A .Carrier → A .Carrier
   emissive-power-2 D Q L = A .quotient (A .product (radiant-fraction D) Q) (flame-surface D L)
 
-  unfoldable pub emissive-power : ℕ → A .Carrier → A .Carrier → A .Carrier → A .Carrier
-  emissive-power method D Q L = elim (eqb method 1) [ true ↦ emissive-power-1 D | false ↦ emissive-power-2 D Q L ]
+  -- Request 5: "Method 3, in place of steps 3 to 5, has M = (m/1000)·(1-X)": burning, of m/1000. (004, equation 8b)
+  -- "then w = M/(1.2·root(9.81·D))." (004, equation 3)
+  unfoldable pub froude-number : A .Carrier → A .Carrier → A .Carrier
+  froude-number D M = A .quotient M (A .product (A .constant 12 10) (A .root (A .product (A .constant 981 100) D)))
+
+  -- "L is 42·D times the 0.61 power of w. That power is two roots, then two fifth roots, then 61 equal factors." (004, equation 1)
+  -- Here b with n more factors b, from left to right.
+  unfoldable pub equal-factors : A .Carrier → ℕ → A .Carrier
+  equal-factors b zero = b
+  equal-factors b (suc n) = A .product (equal-factors b n) b
+
+  unfoldable pub power-61-hundredths : A .Carrier → A .Carrier
+  power-61-hundredths w = equal-factors (A .fifth-root (A .fifth-root (A .root (A .root w)))) 60
+
+  unfoldable pub flame-height-3 : A .Carrier → A .Carrier → A .Carrier
+  flame-height-3 D w = A .product (A .times D 42) (power-61-hundredths w)
+
+  -- "With X2 = exp(-(0.2·D)), E is 140·X2 + 20·(1-X2)." (004, equation 15)
+  unfoldable pub unobscured : A .Carrier → A .Carrier
+  unobscured D = exp-neg A (A .product (A .constant 2 10) D)
+
+  unfoldable pub emissive-power-3 : A .Carrier → A .Carrier
+  emissive-power-3 D =
+      let X2 = unobscured D in
+      A .sum (A .times X2 140) (A .times (A .difference (one A) X2) 20)
 
   -- 6. "l = L/R; e = (d/1000)/R.": a length in radii of the pool.
   unfoldable pub in-radii : A .Carrier → A .Carrier → A .Carrier
@@ -155,15 +184,39 @@ module _ (A : Arithmetic) where
 
   -- 3. "m·c·a/1000"
   unfoldable pub heat-release-of : Enquiry → A .Carrier
-  heat-release-of E = heat-release (A .constant (E .rate * E .heat * E .area) 1000) (unabsorbed-of E)
+  heat-release-of E = burning (A .constant (E .rate * E .heat * E .area) 1000) (unabsorbed-of E)
 
-  -- 4. L of the enquiry.
+  -- Request 5: "m/1000"; "Its burning rate stays that of step 2."
+  unfoldable pub froude-number-of : Enquiry → A .Carrier
+  froude-number-of E = froude-number (diameter-of E) (burning (A .constant (E .rate) 1000) (unabsorbed-of E))
+
+  -- 4 and 5. L and E by each method.
+  unfoldable pub flame-1-of : Enquiry → Flame (A .Carrier)
+  flame-1-of E =
+      record { height = flame-height (diameter-of E) (heat-release-of E); power = emissive-power-1 (diameter-of E) }
+
+  unfoldable pub flame-2-of : Enquiry → Flame (A .Carrier)
+  flame-2-of E =
+      let L = flame-height (diameter-of E) (heat-release-of E) in
+      record { height = L; power = emissive-power-2 (diameter-of E) (heat-release-of E) L }
+
+  unfoldable pub flame-3-of : Enquiry → Flame (A .Carrier)
+  flame-3-of E =
+      record { height = flame-height-3 (diameter-of E) (froude-number-of E); power = emissive-power-3 (diameter-of E) }
+
+  -- The method of the enquiry: 1, 2 or 3.
+  unfoldable pub flame-of : Enquiry → Flame (A .Carrier)
+  flame-of E =
+      elim (eqb (E .method) 1) [
+        | true ↦ flame-1-of E
+        | false ↦ elim (eqb (E .method) 2) [ true ↦ flame-2-of E | false ↦ flame-3-of E ]
+      ]
+
   unfoldable pub flame-height-of : Enquiry → A .Carrier
-  flame-height-of E = flame-height (diameter-of E) (heat-release-of E)
+  flame-height-of E = (flame-of E) .height
 
-  -- 5. E by the method of the enquiry.
   unfoldable pub emissive-power-of : Enquiry → A .Carrier
-  emissive-power-of E = emissive-power (E .method) (diameter-of E) (heat-release-of E) (flame-height-of E)
+  emissive-power-of E = (flame-of E) .power
 
   -- 6. "l = L/R"
   unfoldable pub relative-height-of : Enquiry → A .Carrier

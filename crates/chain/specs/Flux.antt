@@ -46,7 +46,8 @@ abbrev pub outside : ℕ → ℕ → ℕ → Bool
 outside least most n = not (leb least n && leb n most)
 
 -- "burning rate m of a large pool, 10 to 150 g/(m²·s); absorption k, 10 to 500 hundredths per metre; heat of combustion c,
--- 100 to 500 tenths of MJ/kg; area a, 100 to 190,000 dm²; method 1 or 2; rim distance d, 1,000 to 200,000 mm; face 1, 2 or 3"
+-- 100 to 500 tenths of MJ/kg; area a, 100 to 190,000 dm²; method 1 or 2; rim distance d, 1,000 to 200,000 mm; face 1, 2 or 3"; and
+-- request 5: "Number 13 now means a method outside 1 to 3."
 unfoldable pub fuel-within : Enquiry → Bool
 fuel-within E =
     not (outside 10 150 (E .rate)) && not (outside 10 500 (E .absorption)) && not (outside 100 500 (E .heat))
@@ -64,7 +65,8 @@ flame-too-low E = ltb (4 * (flame-height-of rounded E) .low) ((diameter-of round
 unfoldable pub stage-too-large : Enquiry → Bool
 stage-too-large E = eqb ((radiant-flux answers E) .number) 64
 
--- "Low: 1000·q.low as W/m², down; high: 1000·q.high, up. Note 1 for method 1 with low at most 5,000, else 0."
+-- "Low: 1000·q.low as W/m², down; high: 1000·q.high, up. Note 1 for method 1 with low at most 5,000, else 0."; so for method 3,
+-- request 5: "the note is 0".
 unfoldable pub low-of : Enquiry → ℕ
 low-of E = down (1000 * (radiant-flux rounded E) .low) U
 
@@ -80,7 +82,7 @@ unfoldable pub flux-of : Enquiry → Shown
 flux-of E =
     refuse (not (fuel-within E)) (refused 11)
     (refuse (outside 100 190_000 (E .area)) (refused 12)
-    (refuse (outside 1 2 (E .method)) (refused 13)
+    (refuse (outside 1 3 (E .method)) (refused 13)
     (refuse (outside 1_000 200_000 (E .distance)) (refused 14)
     (refuse (outside 1 3 (E .face)) (refused 15)
     (refuse (height-outside (E .height)) (refused 18)

@@ -11,6 +11,7 @@ use Rattle.pairs.specs.Answers.{answers}
 use Rattle.pairs.specs.Series.{atan}
 use Rattle.chain.specs.declared.enquiry.Enquiry.{Enquiry}
 use Rattle.chain.specs.declared.enquiry.Printed.{Printed}
+use Rattle.chain.specs.declared.pool.PoolFlame.{PoolFlame}
 use Rattle.chain.specs.declared.factor.Rim.{Rim}
 use Rattle.chain.specs.declared.factor.Upright.{Upright}
 use Rattle.chain.specs.declared.factor.Seen.{Seen}
@@ -21,11 +22,16 @@ use Rattle.chain.specs.Flux.{outside, fuel-within, height-outside}
 pub record Limited (E : Enquiry) : Type 0 where
   pub fuel : not (fuel-within E) ≡ false
   pub area : outside 100 190_000 (E .area) ≡ false
-  pub method : outside 1 2 (E .method) ≡ false
+  pub method : outside 1 3 (E .method) ≡ false
   pub distance : outside 1_000 200_000 (E .distance) ≡ false
   pub face : outside 1 3 (E .face) ≡ false
   pub height : height-outside (E .height) ≡ false
   pub transmissivity : outside 1 1_000 (E .transmissivity) ≡ false
+
+-- L and E of an enquiry, by its method.
+pub record FlameOf (E : Enquiry) (f : PoolFlame) : Type 0 where
+  pub height : figures (f .height) ≡ chain.flame-height-of answers E
+  pub power : figures (f .power) ≡ chain.emissive-power-of answers E
 
 -- Low, high and note of q by a method.
 pub record Prints (q : Pair) (method : ℕ) (p : Printed) : Type 0 where

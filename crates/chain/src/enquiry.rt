@@ -11,7 +11,7 @@ pub struct Enquiry {
     pub heat: u16,
     // area a, dm²
     pub area: u32,
-    // 1 (A.11) or 2 (A.12)
+    // 1 (A.11), 2 (A.12) or 3 (smoky fuels)
     pub method: u8,
     // rim distance d, mm
     pub distance: u32,

@@ -14,10 +14,9 @@ use super::lifted::over_of;
 use super::lifted::product_of;
 use super::lifted::quotient_of;
 use super::lifted::times_of;
+use super::pool::PoolFlame;
 use super::pool::diameter;
-use super::pool::emissive_power;
-use super::pool::flame_height;
-use super::pool::heat_release;
+use super::pool::flame;
 use pairs::answer::Answer;
 use pairs::answer::Pair;
 ghost use mathlib.Core.Path.{_≡_};
@@ -28,7 +27,7 @@ ghost use Rattle.pairs.specs.Figures.{figures};
 ghost use Rattle.pairs.specs.Answers.{answers};
 ghost use Rattle.chain.specs.Chain as chain;
 ghost use Rattle.chain.specs.Flux.{flux-of, number-of, shown};
-ghost use Rattle.chain.specs.Private.{Limited, Prints};
+ghost use Rattle.chain.specs.Private.{Limited, FlameOf, Prints};
 
 // The pair of an answer, [0, 0] of a refusal.
 fn pair_of(a: Answer) -> Pair
@@ -58,25 +57,25 @@ fn transmitted(transmissivity: u64, clear: Answer) -> Answer
 }
 
 // 8. q, which is E·F times the transmissivity over 1,000.
-fn radiant_flux(e: Enquiry, diameter: Answer, heat: Answer, height: Answer) -> Answer
+fn radiant_flux(e: Enquiry, diameter: Answer, flame: PoolFlame) -> Answer
     requires { ⌜ figures diameter ≡ chain.diameter-of answers e ⌝ }
-    requires { ⌜ figures heat ≡ chain.heat-release-of answers e ⌝ }
-    requires { ⌜ figures height ≡ chain.flame-height-of answers e ⌝ }
+    requires { ⌜ FlameOf e flame ⌝ }
     requires { ⌜ Limited e ⌝ }
     ensures { λ r. ⌜ figures r ≡ chain.radiant-flux answers e ⌝ }
 {
-    let method = e.method;
     let face = e.face;
     let rim_distance = e.distance as u64;
     let transmissivity = e.transmissivity as u64;
     let above_base = e.height;
     let from_base = magnitude(above_base) as u64;
+    let height = flame.height;
+    let power = flame.power;
     let radius = over_of(diameter, 2);
     let l = quotient_of(height, radius);
     let elevation = quotient_of(exact(from_base * 1_000_000_000), radius);
     let distance = quotient_of(exact(rim_distance * 1_000_000_000), radius);
     let clear = product_of(
-        emissive_power(method, diameter, heat, height),
+        power,
         factor_at(from_base_up(above_base), face, l, elevation, distance),
     );
     transmitted(transmissivity, clear)
@@ -103,13 +102,13 @@ fn flux_within(e: Enquiry) -> Flux
     ensures { λ r. ⌜ shown r ≡ flux-of e ⌝ }
 {
     let across = diameter(e.area);
-    let heat = heat_release(e, across);
-    let height = flame_height(across, heat);
+    let burning = flame(e, across);
+    let height = burning.height;
     if too_low(across, height) {
         return Flux::Refused(Turned::LowFlame);
     }
     let method = e.method;
-    let Answer::Is(q) = radiant_flux(e, across, heat, height) else {
+    let Answer::Is(q) = radiant_flux(e, across, burning) else {
         // no operation refuses in an accepted chain
         return Flux::Refused(Turned::TooLarge);
     };
@@ -143,7 +142,7 @@ pub fn flux(e: Enquiry) -> Flux
     if outside(e.area as u64, 100, 190_000) {
         return Flux::Refused(Turned::Area);
     }
-    if outside(e.method as u64, 1, 2) {
+    if outside(e.method as u64, 1, 3) {
         return Flux::Refused(Turned::Method);
     }
     if outside(e.distance as u64, 1_000, 200_000) {

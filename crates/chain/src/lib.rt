@@ -7,3 +7,4 @@ pub mod factor;
 pub mod flux;
 mod lifted;
 mod pool;
+mod smoky;

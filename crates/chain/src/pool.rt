@@ -12,12 +12,16 @@ use super::lifted::quotient_of;
 use super::lifted::root_of;
 use super::lifted::sum_of;
 use super::lifted::times_of;
+use super::smoky::emissive_power_3;
+use super::smoky::flame_height_3;
+use super::smoky::froude_number;
 use pairs::answer::Answer;
 ghost use mathlib.Core.Path.{_≡_};
 ghost use Prim.Native.Nat.{_*_, _≤_};
 ghost use Rattle.pairs.specs.Figures.{figures};
 ghost use Rattle.pairs.specs.Answers.{answers};
 ghost use Rattle.chain.specs.Chain as chain;
+ghost use Rattle.chain.specs.Private.{Limited, FlameOf};
 
 // 1. D = root((4a/100)/pi).
 pub(crate) fn diameter(area: u32) -> Answer
@@ -36,23 +40,30 @@ fn unabsorbed(absorption: u16, diameter: Answer) -> Answer
     exp_neg_of(over_of(times_of(diameter, k), 100))
 }
 
-// 3. Q = (m·c·a/1000)·(1-X).
-pub(crate) fn heat_release(e: Enquiry, diameter: Answer) -> Answer
-    requires { ⌜ (e .rate ≤ 150) × (e .heat ≤ 500) × (e .area ≤ 190_000) ⌝ }
-    ensures { λ r. ⌜ figures r ≡ chain.heat-release answers (answers .constant (e .rate * e .heat * e .area) 1000) (chain.unabsorbed answers (e .absorption) (figures diameter)) ⌝ }
+// What burns of so many thousandths: n/1000·(1-X).
+fn burning(n: u64, unabsorbed: Answer) -> Answer
+    requires { ⌜ n ≤ 14_250_000_000 ⌝ }
+    ensures { λ r. ⌜ figures r ≡ chain.burning answers (answers .constant n 1000) (figures unabsorbed) ⌝ }
 {
-    let absorption = e.absorption;
-    let m = e.rate as u64;
-    let c = e.heat as u64;
-    let a = e.area as u64;
     product_of(
-        exact(m * c * a * 1_000_000_000),
-        difference_of(exact(1_000_000_000_000), unabsorbed(absorption, diameter)),
+        exact(n * 1_000_000_000),
+        difference_of(exact(1_000_000_000_000), unabsorbed),
     )
 }
 
+// 3. Q = (m·c·a/1000)·(1-X).
+fn heat_release(e: Enquiry, unabsorbed: Answer) -> Answer
+    requires { ⌜ (e .rate ≤ 150) × (e .heat ≤ 500) × (e .area ≤ 190_000) ⌝ }
+    ensures { λ r. ⌜ figures r ≡ chain.burning answers (answers .constant (e .rate * e .heat * e .area) 1000) (figures unabsorbed) ⌝ }
+{
+    let m = e.rate as u64;
+    let c = e.heat as u64;
+    let a = e.area as u64;
+    burning(m * c * a, unabsorbed)
+}
+
 // 4. s = fifth root of Q; L = 0.235·(s·s) - 1.02·D.
-pub(crate) fn flame_height(diameter: Answer, heat: Answer) -> Answer
+fn flame_height(diameter: Answer, heat: Answer) -> Answer
     ensures { λ r. ⌜ figures r ≡ chain.flame-height answers (figures diameter) (figures heat) ⌝ }
 {
     let s = fifth_root_of(heat);
@@ -94,12 +105,37 @@ fn emissive_power_2(diameter: Answer, heat: Answer, height: Answer) -> Answer
     quotient_of(product_of(fraction, heat), flame_surface(diameter, height))
 }
 
-// The emissive power by a method.
-pub(crate) fn emissive_power(method: u8, diameter: Answer, heat: Answer, height: Answer) -> Answer
-    ensures { λ r. ⌜ figures r ≡ chain.emissive-power answers method (figures diameter) (figures heat) (figures height) ⌝ }
+// A flame over a pool: L and E.
+pub(crate) struct PoolFlame {
+    pub height: Answer,
+    pub power: Answer,
+}
+
+// 3 to 5. The flame by the method of the enquiry.
+pub(crate) fn flame(e: Enquiry, diameter: Answer) -> PoolFlame
+    requires { ⌜ figures diameter ≡ chain.diameter-of answers e ⌝ }
+    requires { ⌜ Limited e ⌝ }
+    ensures { λ r. ⌜ FlameOf e r ⌝ }
 {
-    if method == 1 {
-        return emissive_power_1(diameter);
+    let method = e.method;
+    let m = e.rate as u64;
+    let x = unabsorbed(e.absorption, diameter);
+    if method == 3 {
+        return PoolFlame {
+            height: flame_height_3(diameter, froude_number(diameter, burning(m, x))),
+            power: emissive_power_3(diameter),
+        };
     }
-    emissive_power_2(diameter, heat, height)
+    let heat = heat_release(e, x);
+    let height = flame_height(diameter, heat);
+    if method == 1 {
+        return PoolFlame {
+            height,
+            power: emissive_power_1(diameter),
+        };
+    }
+    PoolFlame {
+        height,
+        power: emissive_power_2(diameter, heat, height),
+    }
 }

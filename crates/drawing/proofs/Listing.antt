@@ -41,10 +41,6 @@ padded-length group n few =
     let past = most-targets - length (listed group n) in
     length-append (listed group n) (replicate past three-zeros) ∙ omega (arith, listed-length group n, length-replicate past three-zeros)
 
-pub none-stored : (group : ℕ → Group) (d : List Group) → d ≡ pasted d 0 (listed group 0)
-unfolding pasted listed
-none-stored group d = refl
-
 pub one-stored :
     (group : ℕ → Group) (d e : List Group) (i : ℕ) (g : Group) → i < length d → e ≡ pasted d 0 (listed group i) → g ≡ group i
     → set e i g ≡ pasted d 0 (listed group (i + 1))
@@ -76,10 +72,6 @@ laid-out-length group (suc n) =
     ap length (laid-out-append (listed group n) (group n ∷ []))
     ∙ length-append (laid-out (listed group n)) (floats (group n))
     ∙ omega (arith, laid-out-length group n)
-
-pub none-laid-out : (group : ℕ → Group) (d : List Float) → d ≡ pasted d 0 (laid-out (listed group 0))
-unfolding pasted listed laid-out
-none-laid-out group d = refl
 
 pub one-laid-out :
     (group : ℕ → Group) (d e f : List Float) (i : ℕ) (g : Group) → group-size * (i + 1) ≤ length d → e ≡ pasted d 0 (laid-out (listed group i))

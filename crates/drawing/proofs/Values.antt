@@ -83,7 +83,7 @@ halved (fin false m e) n h v =
     (rounded-half n h))
 
 -- ---- two whole numbers below 2^33
-module _ (a b : ℕ) (small : a < limit) (fair : b < limit) where
+module _ (a b : ℕ) (a-small : a < limit) (b-small : b < limit) where
   low-value : HasValue (float a) false a 1
   low-value = float-value a (omega arith)
 

@@ -1,7 +1,7 @@
 -- Step 7, the configuration factor at any height: rounded and exact overlap at every depth from 8 on, where e is at least 1/256.
 -- Its divisors are sums with 1 or 2, and roots of products and sums of squares of e and e + 2. Assumes nothing.
 use mathlib.Core.Path.{refl}
-use mathlib.Core.Bool.{Bool, true, false}
+use mathlib.Core.Bool.{Bool}
 use Prim.Native.Nat.{ℕ, zero, _≤_, _<_}
 use native.Mathlib.Nat.{mul-pos}
 use native.Mathlib.Omega.{arith}
@@ -11,6 +11,7 @@ use Rattle.pairs.specs.Answers.{answers}
 use Rattle.pairs.specs.Answers as answer
 use Rattle.pairs.specs.Series.{pi}
 use Rattle.chain.specs.Chain.{x, g, r, u, v, tilt, height-angle, vertical-ratio, vertical, horizontal-ratio, horizontal, by-face, vertical-above, horizontal-above, vertical-below, horizontal-below, factor-at}
+use Rattle.chain.proofs.Steps.{choice-kept}
 use Rattle.exact.specs.Fraction.{Fraction, _⊑_, _⊗_, power}
 use Rattle.exact.specs.Depth as depth
 use Rattle.exact.specs.Depth.{Bracket, exact}
@@ -19,13 +20,6 @@ use Rattle.exact.proofs.Root.{one-256th, root-above-0}
 use Rattle.exact.proofs.Sound.{Positive}
 use Rattle.exact.proofs.Meets.{Meets, constant-meets, sum-meets, difference-meets, product-meets, quotient-meets, root-meets, larger-meets}
 use Rattle.exact.proofs.Arc.{one-meets, one-and-more, atan-meets, pi-meets, pi-low}
-
--- A choice by one test on both sides.
-pub choice-meets :
-    (b : Bool) {f h : Figures} {y z : Bracket} → Meets f y → Meets h z →
-    Meets (elim b [ true ↦ f | false ↦ h ]) (elim b [ true ↦ y | false ↦ z ])
-choice-meets true p q = p
-choice-meets false p q = q
 
 pub pi-positive : (n : ℕ) → 1 ≤ n → Positive (pi (exact n))
 pi-positive n p = above-from (whole-above-0 (lit< tt)) (pi-low n p)
@@ -140,7 +134,7 @@ module _ (n : ℕ) (deep : 8 ≤ n) {a b : Figures} {l e : Bracket} (away : one-
 by-face-meets :
     (n face : ℕ) {f k : Figures} {y z : Bracket} → Meets f y → Meets k z → Meets (by-face answers face f k) (by-face (exact n) face y z)
 unfolding by-face
-by-face-meets n face h k = choice-meets (eqb face 1) h (choice-meets (eqb face 2) k (larger-meets h k))
+by-face-meets n face h k = choice-kept Meets (eqb face 1) h (choice-kept Meets (eqb face 2) k (larger-meets h k))
 
 pub factor-at-meets :
     (n : ℕ) → 8 ≤ n → {a c b : Figures} {l h e : Bracket} → one-256th ⊑ e .low → Meets a l → Meets c h → Meets b e
@@ -150,7 +144,7 @@ factor-at-meets n deep away L H E up face =
     let between = difference-meets L H in
     let beyond = difference-meets H L in
     let together = sum-meets L H in
-    choice-meets up
+    choice-kept Meets up
     (by-face-meets n face
     (difference-meets (sum-meets (vertical-meets n deep away H E) (vertical-meets n deep away between E))
     (vertical-meets n deep away beyond E))

@@ -41,10 +41,6 @@ unfolding answers
 answers-length s zero = refl
 answers-length s (suc n) = length-append (answers s n) (ten-bytes (shown-of s n)) ∙ omega (arith, answers-length s n, ten (shown-of s n))
 
-pub none-written : (s d : List ℕ) → d ≡ pasted d 0 (answers s 0)
-unfolding pasted answers
-none-written s d = refl
-
 pub one-more :
     (s d e f : List ℕ) (i : ℕ) (a : Shown) → answer-size * (i + 1) ≤ length d → e ≡ pasted d 0 (answers s i) → a ≡ shown-of s i
     → f ≡ pasted e (answer-size * i) (ten-bytes a) → f ≡ pasted d 0 (answers s (i + 1))

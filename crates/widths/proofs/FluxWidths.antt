@@ -15,14 +15,14 @@ use Rattle.pairs.specs.Figures.{Figures}
 use Rattle.pairs.specs.Answers.{answers}
 use Rattle.pairs.proofs.Agreement.{agreement}
 use Rattle.chain.specs.declared.enquiry.Enquiry.{Enquiry}
-use Rattle.chain.specs.Chain.{by-face, factor, factor-at, emissive-power, emissive-power-of, relative-height-of, relative-elevation-of, relative-distance-of, configuration-factor-of, clear-flux, radiant-flux}
+use Rattle.chain.specs.Chain.{by-face, factor, factor-at, flame-height-of, emissive-power-of, relative-height-of, relative-elevation-of, relative-distance-of, configuration-factor-of, clear-flux, radiant-flux}
 use Rattle.chain.proofs.Bounds as B
 use Rattle.chain.proofs.Bounds.{Bound, bound, bounds}
 use Rattle.chain.proofs.Inside.{Inside}
 use Rattle.chain.proofs.Within.{Held, within}
-use Rattle.chain.proofs.Steps.{choice-kept, factor-kept, emissive-power-of-kept, relative-height-of-kept, relative-distance-of-kept, clear-flux-kept}
+use Rattle.chain.proofs.Steps.{factor-kept, emissive-power-of-kept, relative-height-of-kept, relative-distance-of-kept, clear-flux-kept}
 use Rattle.chain.proofs.Boxes.{known, every, each, either}
-use Rattle.chain.proofs.Flame.{emissive-bound-1, emissive-bound-2}
+use Rattle.chain.proofs.Flame.{emissive-bound-1, emissive-bound-2, emissive-bound-3, emissive-bound}
 use Rattle.chain.proofs.Limits.{Tested, between, transmissivity}
 use Rattle.chain.proofs.Accepted as chain
 use Rattle.chain.proofs.Haze.{hazy-near}
@@ -30,9 +30,6 @@ use Rattle.chain.proofs.Level.{clear-level}
 use Rattle.widths.proofs.FactorWidths.{Placement, level-bound, above-bound, below-bound, level-within, above-within, below-within}
 
 -- ---- bounds of E·F
-unfoldable pub emissive-bound : ℕ → Bound
-emissive-bound method = elim (eqb method 1) [ true ↦ emissive-bound-1 | false ↦ emissive-bound-2 ]
-
 -- From a bound of the factor, in trillionths of a kW/m².
 unfoldable pub clear-bound : ℕ → Bound → Bound
 clear-bound method F = B.product (emissive-bound method) F
@@ -44,35 +41,37 @@ width-of method face = max ((clear-bound method (above-bound face)) .width) ((cl
 unfoldable pub level-width-of : ℕ → ℕ → ℕ
 level-width-of method face = (clear-bound method (level-bound face)) .width
 
-pub widths : (width-of 1 1 ≡ 1_669_700_001) × (width-of 1 2 ≡ 1_117_500_001) × (width-of 1 3 ≡ 1_669_700_001) × (width-of 2 1 ≡ 5_702_500_001) × (width-of 2 2 ≡ 3_634_700_001) × (width-of 2 3 ≡ 5_702_500_001)
+pub widths : (width-of 1 1 ≡ 1_669_700_001) × (width-of 1 2 ≡ 1_117_500_001) × (width-of 1 3 ≡ 1_669_700_001) × (width-of 2 1 ≡ 5_702_500_001) × (width-of 2 2 ≡ 3_634_700_001) × (width-of 2 3 ≡ 5_702_500_001) × (width-of 3 1 ≡ 3_431_100_001) × (width-of 3 2 ≡ 2_293_920_001) × (width-of 3 3 ≡ 3_431_100_001)
 unfolding width-of clear-bound emissive-bound above-bound below-bound by-face B.product B.sum B.difference B.larger bound up
-widths = (refl, refl, refl, refl, refl, refl)
+widths = (refl, refl, refl, refl, refl, refl, refl, refl, refl)
 
-pub level-widths : (level-width-of 1 1 ≡ 190_100_001) × (level-width-of 1 2 ≡ 165_600_001) × (level-width-of 1 3 ≡ 190_100_001) × (level-width-of 2 1 ≡ 668_500_001) × (level-width-of 2 2 ≡ 545_200_001) × (level-width-of 2 3 ≡ 668_500_001)
+pub level-widths : (level-width-of 1 1 ≡ 190_100_001) × (level-width-of 1 2 ≡ 165_600_001) × (level-width-of 1 3 ≡ 190_100_001) × (level-width-of 2 1 ≡ 668_500_001) × (level-width-of 2 2 ≡ 545_200_001) × (level-width-of 2 3 ≡ 668_500_001) × (level-width-of 3 1 ≡ 390_900_001) × (level-width-of 3 2 ≡ 340_020_001) × (level-width-of 3 3 ≡ 390_900_001)
 unfolding level-width-of clear-bound emissive-bound level-bound by-face B.product B.larger bound up
-level-widths = (refl, refl, refl, refl, refl, refl)
+level-widths = (refl, refl, refl, refl, refl, refl, refl, refl, refl)
 
 -- ---- whatever the method, the face and the height, E·F is not refused
--- Both methods, on each of the faces.
+-- Each method, on each of the faces.
 abbrev face-tests : Bound → List Bool → List Bool
-face-tests F rest = (B.product emissive-bound-1 F) .safe ∷ (B.product emissive-bound-2 F) .safe ∷ rest
+face-tests F rest = (B.product emissive-bound-1 F) .safe ∷ (B.product emissive-bound-2 F) .safe ∷ (B.product emissive-bound-3 F) .safe ∷ rest
 
 abbrev flux-tests : Bound → Bound → List Bool
 flux-tests upright level = face-tests upright (face-tests level (face-tests (B.larger upright level) []))
 
-by-method : (method : ℕ) (F : Bound) → T ((B.product emissive-bound-1 F) .safe) → T ((B.product emissive-bound-2 F) .safe) → T ((clear-bound method F) .safe)
+by-method : (method : ℕ) (F : Bound) → T ((B.product emissive-bound-1 F) .safe) → T ((B.product emissive-bound-2 F) .safe) → T ((B.product emissive-bound-3 F) .safe) → T ((clear-bound method F) .safe)
 unfolding clear-bound emissive-bound
-by-method method F s t = either (λ b. T ((B.product b F) .safe)) (eqb method 1) s t
+by-method method F s t w =
+    let P : Bound → Type 0 = λ b. T ((B.product b F) .safe) in
+    either P (eqb method 1) s (either P (eqb method 2) t w)
 
 by-method-and-face : (upright level : Bound) → T (every (flux-tests upright level)) → (method face : ℕ) → T ((clear-bound method (by-face bounds face upright level)) .safe)
 unfolding by-face
 by-method-and-face upright level t method face =
     let c = each (flux-tests upright level) t in
-    let c₂ = c .1 .1 in
-    let c₄ = c₂ .1 .1 in
-    either (λ b. T ((clear-bound method b) .safe)) (eqb face 1) (by-method method upright (c .0) (c .1 .0))
-    (either (λ b. T ((clear-bound method b) .safe)) (eqb face 2) (by-method method level (c₂ .0) (c₂ .1 .0))
-    (by-method method (B.larger upright level) (c₄ .0) (c₄ .1 .0)))
+    let c₃ = c .1 .1 .1 in
+    let c₆ = c₃ .1 .1 .1 in
+    either (λ b. T ((clear-bound method b) .safe)) (eqb face 1) (by-method method upright (c .0) (c .1 .0) (c .1 .1 .0))
+    (either (λ b. T ((clear-bound method b) .safe)) (eqb face 2) (by-method method level (c₃ .0) (c₃ .1 .0) (c₃ .1 .1 .0))
+    (by-method method (B.larger upright level) (c₆ .0) (c₆ .1 .0) (c₆ .1 .1 .0)))
 
 above-safe : (method face : ℕ) → T ((clear-bound method (above-bound face)) .safe)
 unfolding above-bound B.product B.sum B.difference B.larger bound up down
@@ -96,11 +95,12 @@ height-bound from-the-base-up face = elim from-the-base-up [ true ↦ above-boun
 
 module _ (E : Enquiry) (t : Tested E) where
   placement : Placement (relative-height-of answers E) (relative-elevation-of answers E) (relative-distance-of answers E)
+  unfolding relative-height-of flame-height-of
   placement =
       let w = t .limited in
       let d = between 1_000 200_000 (E .distance) (w .distance) in
       let s = chain.area-of E (w .fuel) (w .area) in
-      let f = s .flame .high (chain.high-enough E (chain.within-limits-not-refused E (w .fuel) (w .area)) (t .flame)) in
+      let f = chain.high-flame E t in
       record {
         height = f .height;
         height-near = f .height-near (d .low) (d .high);
@@ -109,8 +109,7 @@ module _ (E : Enquiry) (t : Tested E) where
       }
 
   power-held : Held (emissive-power-of answers E) (emissive-bound (E .method))
-  unfolding emissive-power-of emissive-power emissive-bound
-  power-held = let s = chain.bounded E t in choice-kept Held (eqb (E .method) 1) (s .power-1) (s .power-2)
+  power-held = chain.bounded E t .power
 
   at-height : (from-the-base-up : Bool) → Held (answers .product (emissive-power-of answers E) (factor-at answers from-the-base-up (E .face) (relative-height-of answers E) (relative-elevation-of answers E) (relative-distance-of answers E))) (clear-bound (E .method) (height-bound from-the-base-up (E .face)))
   unfolding clear-bound

@@ -9,11 +9,12 @@ use Rattle.chain.specs.Flux.{low-of, high-of}
 use Rattle.chain.proofs.Bounds as B
 use Rattle.chain.proofs.Bounds.{bound}
 use Rattle.chain.proofs.Boxes.{either}
+use Rattle.chain.proofs.Flame.{emissive-bound}
 use Rattle.chain.proofs.Limits.{between, accepted-tested}
 use Rattle.chain.proofs.Accepted.{accepted, shown}
 use Rattle.widths.specs.Narrow.{at-any-height, at-height-0, Widths}
 use Rattle.widths.proofs.FactorWidths.{level-bound, above-bound, below-bound}
-use Rattle.widths.proofs.FluxWidths.{emissive-bound, clear-bound, width-of, level-width-of, flux-near, level-near}
+use Rattle.widths.proofs.FluxWidths.{clear-bound, width-of, level-width-of, flux-near, level-near}
 
 -- Low and high of a q that is so many trillionths of a kW/m² wide.
 unfoldable printed : ℕ → ℕ
@@ -37,28 +38,26 @@ of-three P a b c (suc (suc (suc (suc n)))) l h = absurd (omega arith)
 
 -- What holds for each method and face.
 each-case :
-    (P : ℕ → ℕ → Type 0) → P 1 1 → P 1 2 → P 1 3 → P 2 1 → P 2 2 → P 2 3
-    → (method face : ℕ) → 1 ≤ method → method ≤ 2 → 1 ≤ face → face ≤ 3 → P method face
-each-case P a b c d e f zero face l h least most = absurd (omega arith)
-each-case P a b c d e f (suc zero) face l h least most = of-three (P 1) a b c face least most
-each-case P a b c d e f (suc (suc zero)) face l h least most = of-three (P 2) d e f face least most
-each-case P a b c d e f (suc (suc (suc m))) face l h least most = absurd (omega arith)
+    (P : ℕ → ℕ → Type 0) → P 1 1 → P 1 2 → P 1 3 → P 2 1 → P 2 2 → P 2 3 → P 3 1 → P 3 2 → P 3 3
+    → (method face : ℕ) → 1 ≤ method → method ≤ 3 → 1 ≤ face → face ≤ 3 → P method face
+each-case P a b c d e f g h i method face l u =
+    of-three (λ m. (face : ℕ) → 1 ≤ face → face ≤ 3 → P m face) (of-three (P 1) a b c) (of-three (P 2) d e f) (of-three (P 3) g h i) method l u face
 
-any-height : (method face : ℕ) → 1 ≤ method → method ≤ 2 → 1 ≤ face → face ≤ 3 → printed (width-of method face + 1) ≤ at-any-height method face
+any-height : (method face : ℕ) → 1 ≤ method → method ≤ 3 → 1 ≤ face → face ≤ 3 → printed (width-of method face + 1) ≤ at-any-height method face
 unfolding at-any-height printed width-of clear-bound emissive-bound above-bound below-bound by-face B.product B.sum B.difference B.larger bound up
 any-height =
-    each-case (λ method face. printed (width-of method face + 1) ≤ at-any-height method face) (lit≤ tt) (lit≤ tt) (lit≤ tt) (lit≤ tt) (lit≤ tt) (lit≤ tt)
+    each-case (λ method face. printed (width-of method face + 1) ≤ at-any-height method face) (lit≤ tt) (lit≤ tt) (lit≤ tt) (lit≤ tt) (lit≤ tt) (lit≤ tt) (lit≤ tt) (lit≤ tt) (lit≤ tt)
 
-level : (method face : ℕ) → 1 ≤ method → method ≤ 2 → 1 ≤ face → face ≤ 3 → printed (level-width-of method face + 1) ≤ at-height-0
+level : (method face : ℕ) → 1 ≤ method → method ≤ 3 → 1 ≤ face → face ≤ 3 → printed (level-width-of method face + 1) ≤ at-height-0
 unfolding printed level-width-of clear-bound emissive-bound level-bound by-face B.product B.larger bound up
 level =
-    each-case (λ method face. printed (level-width-of method face + 1) ≤ at-height-0) (lit≤ tt) (lit≤ tt) (lit≤ tt) (lit≤ tt) (lit≤ tt) (lit≤ tt)
+    each-case (λ method face. printed (level-width-of method face + 1) ≤ at-height-0) (lit≤ tt) (lit≤ tt) (lit≤ tt) (lit≤ tt) (lit≤ tt) (lit≤ tt) (lit≤ tt) (lit≤ tt) (lit≤ tt)
 
 pub widths : Widths
 unfolding low-of high-of
 widths E e =
     let t = accepted-tested E e in
-    let m = between 1 2 (E .method) (t .limited .method) in
+    let m = between 1 3 (E .method) (t .limited .method) in
     let f = between 1 3 (E .face) (t .limited .face) in
     let w = any-height (E .method) (E .face) (m .low) (m .high) (f .low) (f .high) in
     let v = level (E .method) (E .face) (m .low) (m .high) (f .low) (f .high) in
@@ -72,4 +71,7 @@ widths E e =
 -- Demand 3's 20 W/m² cover them all.
 pub within-20 : (method face : ℕ) → at-any-height method face ≤ 20
 unfolding at-any-height
-within-20 method face = either (λ n. n ≤ 20) (eqb method 1) (lit≤ tt) (either (λ n. n ≤ 20) (eqb face 2) (lit≤ tt) (lit≤ tt))
+within-20 method face =
+    let P : ℕ → Type 0 = λ n. n ≤ 20 in
+    either P (eqb method 1) (lit≤ tt)
+    (either P (eqb method 2) (either P (eqb face 2) (lit≤ tt) (lit≤ tt)) (either P (eqb face 2) (lit≤ tt) (lit≤ tt)))

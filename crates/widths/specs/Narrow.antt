@@ -7,15 +7,20 @@ use lib.IntN.{pos}
 use Rattle.chain.specs.declared.enquiry.Enquiry.{Enquiry}
 use Rattle.chain.specs.Flux.{flux-of}
 
--- At any height, by method and face: method 1 has 3; method 2 has 5 for the horizontal face and 7 for the others.
+-- At any height, by method and face: method 1 has 3; for the horizontal face method 2 has 5 and method 3 has 4; for the others
+-- method 2 has 7 and method 3 has 5.
 unfoldable pub at-any-height : ℕ → ℕ → ℕ
 at-any-height method face =
     elim (eqb method 1) [
       | true ↦ 3
-      | false ↦ elim (eqb face 2) [ true ↦ 5 | false ↦ 7 ]
+      | false ↦
+          elim (eqb method 2) [
+            | true ↦ elim (eqb face 2) [ true ↦ 5 | false ↦ 7 ]
+            | false ↦ elim (eqb face 2) [ true ↦ 4 | false ↦ 5 ]
+          ]
     ]
 
--- Level with the flame's base, by either method and for every face.
+-- Level with the flame's base, by every method and for every face.
 abbrev pub at-height-0 : ℕ
 at-height-0 = 2
 

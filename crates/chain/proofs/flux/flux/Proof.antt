@@ -22,23 +22,23 @@ is-12 : (E : Enquiry) → not (fuel-within E) ≡ false → outside 100 190_000 
 unfolding flux-of
 is-12 E a b = rw (a, b)
 
-is-13 : (E : Enquiry) → not (fuel-within E) ≡ false → outside 100 190_000 (E .area) ≡ false → outside 1 2 (E .method) ≡ true → refused 13 ≡ flux-of E
+is-13 : (E : Enquiry) → not (fuel-within E) ≡ false → outside 100 190_000 (E .area) ≡ false → outside 1 3 (E .method) ≡ true → refused 13 ≡ flux-of E
 unfolding flux-of
 is-13 E a b c = rw (a, b, c)
 
-is-14 : (E : Enquiry) → not (fuel-within E) ≡ false → outside 100 190_000 (E .area) ≡ false → outside 1 2 (E .method) ≡ false → outside 1_000 200_000 (E .distance) ≡ true → refused 14 ≡ flux-of E
+is-14 : (E : Enquiry) → not (fuel-within E) ≡ false → outside 100 190_000 (E .area) ≡ false → outside 1 3 (E .method) ≡ false → outside 1_000 200_000 (E .distance) ≡ true → refused 14 ≡ flux-of E
 unfolding flux-of
 is-14 E a b c d = rw (a, b, c, d)
 
-is-15 : (E : Enquiry) → not (fuel-within E) ≡ false → outside 100 190_000 (E .area) ≡ false → outside 1 2 (E .method) ≡ false → outside 1_000 200_000 (E .distance) ≡ false → outside 1 3 (E .face) ≡ true → refused 15 ≡ flux-of E
+is-15 : (E : Enquiry) → not (fuel-within E) ≡ false → outside 100 190_000 (E .area) ≡ false → outside 1 3 (E .method) ≡ false → outside 1_000 200_000 (E .distance) ≡ false → outside 1 3 (E .face) ≡ true → refused 15 ≡ flux-of E
 unfolding flux-of
 is-15 E a b c d e = rw (a, b, c, d, e)
 
-is-18 : (E : Enquiry) → not (fuel-within E) ≡ false → outside 100 190_000 (E .area) ≡ false → outside 1 2 (E .method) ≡ false → outside 1_000 200_000 (E .distance) ≡ false → outside 1 3 (E .face) ≡ false → height-outside (E .height) ≡ true → refused 18 ≡ flux-of E
+is-18 : (E : Enquiry) → not (fuel-within E) ≡ false → outside 100 190_000 (E .area) ≡ false → outside 1 3 (E .method) ≡ false → outside 1_000 200_000 (E .distance) ≡ false → outside 1 3 (E .face) ≡ false → height-outside (E .height) ≡ true → refused 18 ≡ flux-of E
 unfolding flux-of
 is-18 E a b c d e f = rw (a, b, c, d, e, f)
 
-is-19 : (E : Enquiry) → not (fuel-within E) ≡ false → outside 100 190_000 (E .area) ≡ false → outside 1 2 (E .method) ≡ false → outside 1_000 200_000 (E .distance) ≡ false → outside 1 3 (E .face) ≡ false → height-outside (E .height) ≡ false → outside 1 1_000 (E .transmissivity) ≡ true → refused 19 ≡ flux-of E
+is-19 : (E : Enquiry) → not (fuel-within E) ≡ false → outside 100 190_000 (E .area) ≡ false → outside 1 3 (E .method) ≡ false → outside 1_000 200_000 (E .distance) ≡ false → outside 1 3 (E .face) ≡ false → height-outside (E .height) ≡ false → outside 1 1_000 (E .transmissivity) ≡ true → refused 19 ≡ flux-of E
 unfolding flux-of
 is-19 E a b c d e f g = rw (a, b, c, d, e, f, g)
 

@@ -15,7 +15,7 @@ use Rattle.pairs.specs.declared.answer.Answer.{Answer}
 use Rattle.pairs.specs.declared.answer.Answer.the-variants.{Is}
 use Rattle.chain.specs.declared.enquiry.Printed.{Printed}
 use Rattle.chain.specs.Private.{Limited, Prints}
-use Rattle.chain.proofs.Limits.{Tested, between, fuel}
+use Rattle.chain.proofs.Limits.{Tested, between}
 use Rattle.chain.proofs.Accepted.{within-limits-not-refused, accepted, shown}
 use Rattle.chain.proofs.Given.{pair-given, never-refused}
 use borrow.Author.Needs.{needs}
@@ -43,58 +43,39 @@ worked E a q t e f = pair-given a (chain.radiant-flux rounded E) q (e ∙ accept
 small : (E : Enquiry) (q : Pair) → Tested E → q ≡ chain.radiant-flux rounded E → (q .low ≤ q .high) × (q .high ≤ 6_300 * U)
 small E q t e = let a = accepted E t in rw e (a .ordered, a .high)
 
--- the answers of the steps up to the flame are those of the enquiry
-module _
-    (E : Enquiry) (D Q L : Figures) (d : D ≡ chain.diameter answers (answers .constant (4 * E .area) 100))
-    (q : Q ≡ chain.heat-release answers (answers .constant (E .rate * E .heat * E .area) 1000) (chain.unabsorbed answers (E .absorption) D))
-    (l : L ≡ chain.flame-height answers D Q) where
-  diameter-is : D ≡ chain.diameter-of answers E
-  unfolding chain.diameter-of
-  diameter-is = d
+-- D and L are those of the enquiry
+diameter-is : (E : Enquiry) (D : Figures) → D ≡ chain.diameter answers (answers .constant (4 * E .area) 100) → D ≡ chain.diameter-of answers E
+unfolding chain.diameter-of
+diameter-is E D d = d
 
-  heat-is : Q ≡ chain.heat-release-of answers E
-  unfolding chain.heat-release-of chain.unabsorbed-of
-  heat-is = q ∙ ap (λ (x : Figures). chain.heat-release answers (answers .constant (E .rate * E .heat * E .area) 1000) (chain.unabsorbed answers (E .absorption) x)) diameter-is
-
-  height-is : L ≡ chain.flame-height-of answers E
-  unfolding chain.flame-height-of
-  height-is = l ∙ ap₂ (chain.flame-height answers) diameter-is heat-is
-
-  too-low-is : Limited E → flame-too-low E ≡ ltb (4 * L .pair .low) (D .pair .high)
+module _ (E : Enquiry) (w : Limited E) (D L : Figures) (d : D ≡ chain.diameter-of answers E) (l : L ≡ chain.flame-height-of answers E) where
+  too-low-is : flame-too-low E ≡ ltb (4 * L .pair .low) (D .pair .high)
   unfolding flame-too-low
-  too-low-is w =
+  too-low-is =
       let u = within-limits-not-refused E (w .fuel) (w .area) in
-      ap₂ (λ (x y : Figures). ltb (4 * x .pair .low) (y .pair .high)) (sym (height-is ∙ u .flame-height-given)) (sym (diameter-is ∙ u .diameter-given))
+      ap₂ (λ (x y : Figures). ltb (4 * x .pair .low) (y .pair .high)) (sym (l ∙ u .flame-height-given)) (sym (d ∙ u .diameter-given))
 
-  all-tests-passed : Limited E → {b : Bool} → b ≡ ltb (4 * L .pair .low) (D .pair .high) → b ≡ false → Tested E
-  all-tests-passed w e f = record { limited = w; flame = too-low-is w ∙ sym e ∙ f }
+  all-tests-passed : {b : Bool} → b ≡ ltb (4 * L .pair .low) (D .pair .high) → b ≡ false → Tested E
+  all-tests-passed e f = record { limited = w; flame = too-low-is ∙ sym e ∙ f }
 
 diameter-requires : tie.Need-diameter-requires
 diameter-requires c κs = between 100 190_000 _ (c .pre .area) .high
 
-heat-release-requires : tie.Need-heat-release-requires
-heat-release-requires c κs = let w = c .before .pre in
-    let f = fuel _ (w .fuel) in
-    (f .rate, f .heat, between 100 190_000 _ (w .area) .high)
-
-flame-height-requires : tie.Need-flame-height-requires
-flame-height-requires c κs = search needs
+flame-requires : tie.Need-flame-requires
+flame-requires c κs = (diameter-is _ _ (c .diameter .ensures), c .before .pre)
 
 too-low-requires : tie.Need-too-low-requires
 too-low-requires c κs = search needs
 
 returns : tie.Need-returns
 returns c = let h = c .before .before in
-    let w = h .before .before .before .pre in
-    let test = too-low-is _ _ _ _ (h .before .before .diameter .ensures) (h .before .heat-release .ensures) (h .flame-height .ensures) w in
+    let w = h .before .before .pre in
+    let test = too-low-is _ w _ _ (diameter-is _ _ (h .before .diameter .ensures)) (h .flame .ensures .height) in
     low-flame _ w (test ∙ sym (c .before .too-low .ensures) ∙ c .if1 .taken)
 
 radiant-flux-requires : tie.Need-radiant-flux-requires
 radiant-flux-requires c κs = let h = c .before .before in
-    let d = h .before .before .diameter .ensures in
-    let q = h .before .heat-release .ensures in
-    let l = h .flame-height .ensures in
-    (diameter-is _ _ _ _ d q l, (heat-is _ _ _ _ d q l, (height-is _ _ _ _ d q l, h .before .before .before .pre)))
+    (diameter-is _ _ (h .before .diameter .ensures), (h .flame .ensures, h .before .before .pre))
 
 enum-known-q : tie.Need-enum-known-q
 enum-known-q c = search needs
@@ -103,21 +84,21 @@ returns-2 : tie.Need-returns-2
 returns-2 c = let f = c .before in
     let e = f .before in
     let h = e .before .before in
-    let t = all-tests-passed _ _ _ _ (h .before .before .diameter .ensures) (h .before .heat-release .ensures) (h .flame-height .ensures) (h .before .before .before .pre) (e .before .too-low .ensures) (e .if1 .left) in
+    let t = all-tests-passed _ (h .before .before .pre) _ _ (diameter-is _ _ (h .before .diameter .ensures)) (h .flame .ensures .height) (e .before .too-low .ensures) (e .if1 .left) in
     absurd (never-refused (f .radiant-flux .result) _ (f .radiant-flux .ensures ∙ accepted _ t .flux-given) (c .match .keys2))
 
 printed-requires : tie.Need-printed-requires
 printed-requires c κs = let f = c .before .before .before in
     let e = f .before in
     let h = e .before .before in
-    let t = all-tests-passed _ _ _ _ (h .before .before .diameter .ensures) (h .before .heat-release .ensures) (h .flame-height .ensures) (h .before .before .before .pre) (e .before .too-low .ensures) (e .if1 .left) in
+    let t = all-tests-passed _ (h .before .before .pre) _ _ (diameter-is _ _ (h .before .diameter .ensures)) (h .flame .ensures .height) (e .before .too-low .ensures) (e .if1 .left) in
     small _ _ t (worked _ _ _ t (f .radiant-flux .ensures) (c .before .q .given .1))
 
 returns-3 : tie.Need-returns-3
 returns-3 c = let f = c .before .before .before .before in
     let e = f .before in
     let h = e .before .before in
-    let t = all-tests-passed _ _ _ _ (h .before .before .diameter .ensures) (h .before .heat-release .ensures) (h .flame-height .ensures) (h .before .before .before .pre) (e .before .too-low .ensures) (e .if1 .left) in
+    let t = all-tests-passed _ (h .before .before .pre) _ _ (diameter-is _ _ (h .before .diameter .ensures)) (h .flame .ensures .height) (e .before .too-low .ensures) (e .if1 .left) in
     as-shown _ _ _ t (worked _ _ _ t (f .radiant-flux .ensures) (c .before .before .q .given .1)) (c .printed .ensures)
 
 pub flux-within-spec : {M : Type 1} → statement M
@@ -125,8 +106,7 @@ flux-within-spec =
     tie.close
     (tie.spec
     diameter-requires
-    heat-release-requires
-    flame-height-requires
+    flame-requires
     too-low-requires
     returns
     radiant-flux-requires

@@ -21,11 +21,6 @@ use borrow.Author.Needs.{needs, sfits-of}
 use Rattle.chain.proofs.flux.radiant_flux.Statement.{statement}
 use Rattle.chain.proofs.flux.radiant_flux.Tie as tie
 
-same-power :
-    (method : ℕ) {D D′ Q Q′ L L′ : Figures} → D ≡ D′ → Q ≡ Q′ → L ≡ L′
-    → chain.emissive-power A.answers method D Q L ≡ chain.emissive-power A.answers method D′ Q′ L′
-same-power method d q l = λ i. chain.emissive-power A.answers method (d i) (q i) (l i)
-
 same-factor :
     (face : ℕ) {a a′ : Bool} {l l′ h h′ e e′ : Figures} → a ≡ a′ → l ≡ l′ → h ≡ h′ → e ≡ e′
     → chain.factor-at A.answers a face l h e ≡ chain.factor-at A.answers a′ face l′ h′ e′
@@ -87,19 +82,16 @@ exact-requires-2 c κs = search needs
 quotient-of-requires-3 : tie.Need-quotient-of-requires-3
 quotient-of-requires-3 c κs = search needs
 
-emissive-power-requires : tie.Need-emissive-power-requires
-emissive-power-requires c κs = search needs
-
 from-base-up-requires : tie.Need-from-base-up-requires
 from-base-up-requires c κs = search needs
 
 factor-at-requires : tie.Need-factor-at-requires
 factor-at-requires c κs =
-    let s = c .before .before in
+    let s = c .before in
     let over = s .before .before .before .before .before in
     let start = over .before .before .before .before .before in
     let E = start .args .e in
-    let w = start .pre .1 .1 .1 in
+    let w = start .pre .1 .1 in
     let distance = distance-is E w refl (s .quotient-of3 .ensures) (s .before .exact2 .ensures) (radius-is (over .over-of .ensures) (start .pre .0)) in
     subst Spaced (sym distance) (distance-spaced E w)
 
@@ -110,26 +102,24 @@ transmitted-requires : tie.Need-transmitted-requires
 transmitted-requires c κs = search needs
 
 returns : tie.Need-returns
-unfolding chain.radiant-flux chain.clear-flux chain.emissive-power-of chain.configuration-factor-of chain.relative-height-of chain.in-radii
+unfolding chain.radiant-flux chain.clear-flux chain.configuration-factor-of chain.relative-height-of chain.in-radii
 returns c =
     let p = c .before in
-    let s = p .before .before .before .before in
+    let s = p .before .before .before in
     let over = s .before .before .before .before .before in
     let start = over .before .before .before .before .before in
     let E = start .args .e in
     let D = start .pre .0 in
-    let Q = start .pre .1 .0 in
-    let L = start .pre .1 .1 .0 in
-    let w = start .pre .1 .1 .1 in
+    let flame = start .pre .1 .0 in
+    let w = start .pre .1 .1 in
     let back = toZ-ofZ w32 (E .height) (sfits-of (over .before .before .struct-told .given .1 .1 .1 .1 .1 .1 .1 .0 .1)) in
     let radius = radius-is (over .over-of .ensures) D in
-    let l = s .before .before .before .before .quotient-of .ensures ∙ ap₂ A.quotient L radius in
+    let l = s .before .before .before .before .quotient-of .ensures ∙ ap₂ A.quotient (flame .height) radius in
     let elevation = elevation-is E w (over .before .magnitude .ensures ∙ ap natAbs back) (s .before .before .quotient-of2 .ensures) (s .before .before .before .exact .ensures) radius in
     let distance = distance-is E w refl (s .quotient-of3 .ensures) (s .before .exact2 .ensures) radius in
     let side = p .before .before .from-base-up .ensures ∙ ap nonNeg back in
     let factor = p .before .factor-at .ensures ∙ same-factor (E .face) side l elevation distance in
-    let power = p .before .before .before .emissive-power .ensures ∙ same-power (E .method) D Q L in
-    c .transmitted .ensures ∙ ap (chain.transmitted A.answers (E .transmissivity)) (p .product-of .ensures ∙ ap₂ A.product power factor)
+    c .transmitted .ensures ∙ ap (chain.transmitted A.answers (E .transmissivity)) (p .product-of .ensures ∙ ap₂ A.product (flame .power) factor)
 
 pub radiant-flux-spec : {M : Type 1} → statement M
 radiant-flux-spec =
@@ -147,7 +137,6 @@ radiant-flux-spec =
     mul-exact-2
     exact-requires-2
     quotient-of-requires-3
-    emissive-power-requires
     from-base-up-requires
     factor-at-requires
     product-of-requires

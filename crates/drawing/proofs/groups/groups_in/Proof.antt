@@ -9,7 +9,7 @@ use Rattle.sheet.specs.Private.{pasted}
 use Rattle.drawing.specs.Figures.{three-zeros}
 use Rattle.drawing.specs.Groups.{listed}
 use Rattle.drawing.specs.Private.{group-in}
-use Rattle.drawing.proofs.Listing.{none-stored, one-stored, all-stored}
+use Rattle.drawing.proofs.Listing.{one-stored, all-stored}
 use Rattle.drawing.proofs.groups.groups_in.Statement.{statement}
 use Rattle.drawing.proofs.groups.groups_in.Tie as tie
 
@@ -24,9 +24,8 @@ three-zeros-requires : tie.Need-three-zeros-requires Inv-loop μ-loop
 three-zeros-requires c κs = tt
 
 loop-holds : tie.Need-loop-holds Inv-loop μ-loop
-loop-holds c =
-    let zeros = ap (replicate most-targets) (c .three-zeros .ensures) in
-    (omega arith, refl, zeros ∙ none-stored (group-in (c .before .before .args .answers .now)) (replicate most-targets three-zeros))
+unfolding pasted listed
+loop-holds c = (omega arith, refl, ap (replicate most-targets) (c .three-zeros .ensures))
 
 group-in-requires : tie.Need-group-in-requires Inv-loop μ-loop
 group-in-requires c κs = let pre = c .before .before .before .before .pre in (omega (arith, pre .0), pre .1)

@@ -8,7 +8,7 @@ use Rattle.sheet.specs.Private.{pasted}
 use Rattle.drawing.specs.Groups.{listed}
 use Rattle.drawing.specs.Lent.{laid-out}
 use Rattle.drawing.specs.Private.{group-in}
-use Rattle.drawing.proofs.Listing.{none-laid-out, one-laid-out}
+use Rattle.drawing.proofs.Listing.{one-laid-out}
 use Rattle.drawing.proofs.lent.put_groups.Statement.{statement}
 use Rattle.drawing.proofs.lent.put_groups.Tie as tie
 
@@ -20,7 +20,8 @@ abbrev μ-loop : tie.MeasureT-loop
 μ-loop answers count out₀ i₀ out i = count - i
 
 loop-holds : tie.Need-loop-holds Inv-loop μ-loop
-loop-holds c = let a = c .before .before .args in (omega arith, refl, none-laid-out (group-in (a .answers .now)) (a .out .now))
+unfolding pasted listed laid-out
+loop-holds c = (omega arith, refl, refl)
 
 mul-put-group : tie.Need-mul-put-group Inv-loop μ-loop
 mul-put-group c = omega (arith, c .before .before .before .before .before .pre .0)

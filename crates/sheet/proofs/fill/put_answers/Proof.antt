@@ -6,7 +6,7 @@ use native.Mathlib.Omega.{arith}
 use lib.ListN.{length}
 use Rattle.sheet.specs.Fill.{answers}
 use Rattle.sheet.specs.Private.{pasted}
-use Rattle.sheet.proofs.Filling.{none-written, one-more}
+use Rattle.sheet.proofs.Filling.{one-more}
 use Rattle.sheet.proofs.fill.put_answers.Statement.{statement}
 use Rattle.sheet.proofs.fill.put_answers.Tie as tie
 
@@ -17,7 +17,8 @@ abbrev μ-loop : tie.MeasureT-loop
 μ-loop sheet counts out₀ targets i₀ out i = targets - i
 
 loop-holds : tie.Need-loop-holds Inv-loop μ-loop
-loop-holds c = let a = c .before .before .args in (omega arith, refl, none-written (a .sheet .now) (a .out .now))
+unfolding pasted answers
+loop-holds c = (omega arith, refl, refl)
 
 mul-put-entry : tie.Need-mul-put-entry Inv-loop μ-loop
 mul-put-entry c = omega (arith, c .before .before .before .before .before .pre .0 .few)
