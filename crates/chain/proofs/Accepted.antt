@@ -15,14 +15,14 @@ use Rattle.pairs.specs.Figures.{Figures, given}
 use Rattle.pairs.specs.Answers.{answers}
 use Rattle.pairs.proofs.Agreement.{agreed, agreement}
 use Rattle.chain.specs.declared.enquiry.Enquiry.{Enquiry}
-use Rattle.chain.specs.Chain.{diameter-of, unabsorbed-of, heat-release-of, flame-of, flame-height-of, emissive-power-of, relative-height-of, relative-elevation-of, relative-distance-of, configuration-factor-of, transmitted, clear-flux, radiant-flux}
+use Rattle.chain.specs.Chain.{diameter-of, unabsorbed-of, heat-release-of, burning-rate-of, flame-of, flame-height-of, emissive-power-of, relative-height-of, relative-elevation-of, relative-distance-of, configuration-factor-of, transmitted, clear-flux, radiant-flux}
 use Rattle.chain.specs.Flux.{outside, fuel-within, flame-too-low, stage-too-large, low-of, high-of, note-of, flux-of, Shown}
 use Rattle.chain.specs.Private.{Limited, Spaced}
 use Rattle.chain.proofs.Bounds as B
 use Rattle.chain.proofs.Bounds.{Bound, bound}
 use Rattle.chain.proofs.Inside.{Inside}
 use Rattle.chain.proofs.Within.{Held, within}
-use Rattle.chain.proofs.Steps.{diameter-of-kept, unabsorbed-of-kept, heat-release-of-kept, flame-height-of-kept, clear-flux-kept, radiant-flux-kept}
+use Rattle.chain.proofs.Steps.{diameter-of-kept, unabsorbed-of-kept, heat-release-of-kept, burning-rate-of-kept, flame-height-of-kept, clear-flux-kept, radiant-flux-kept}
 use Rattle.chain.proofs.Boxes.{known, passing, passed, times-over-held, either}
 use Rattle.chain.proofs.Configuration.{relative-height-bound, elevation-bound, relative-distance-bound, spaced, factor-at-held}
 use Rattle.chain.proofs.Flame.{emissive-bound-1, emissive-bound-2, emissive-bound-3, emissive-bound, High}
@@ -31,11 +31,12 @@ use Rattle.chain.proofs.Areas.{areas}
 use Rattle.chain.proofs.Haze.{transmitted-ordered, transmitted-high}
 use Rattle.chain.proofs.Limits.{Tested, between, fuel, height, transmissivity, past-tests, tested-shown}
 
--- ---- inside the limits of 11 and 12
+-- ---- inside the limits of 11 and 12: D, X, what burns, and L by the method of the enquiry
 pub record Unrefused (E : Enquiry) : Type 0 where
   pub diameter-given : diameter-of answers E ≡ given (diameter-of rounded E)
   pub unabsorbed-given : unabsorbed-of answers E ≡ given (unabsorbed-of rounded E)
   pub heat-release-given : heat-release-of answers E ≡ given (heat-release-of rounded E)
+  pub burning-rate-given : burning-rate-of answers E ≡ given (burning-rate-of rounded E)
   pub flame-height-given : flame-height-of answers E ≡ given (flame-height-of rounded E)
 
 pub area-of : (E : Enquiry) → not (fuel-within E) ≡ false → outside 100 190_000 (E .area) ≡ false → Area E
@@ -52,6 +53,7 @@ within-limits-not-refused E f a =
       diameter-given = agreed (diameter-of-kept agreement E) (s .diameter .given);
       unabsorbed-given = agreed (unabsorbed-of-kept agreement E) (s .unabsorbed .given);
       heat-release-given = agreed (heat-release-of-kept agreement E) (s .heat-release);
+      burning-rate-given = agreed (burning-rate-of-kept agreement E) (s .burning-rate);
       flame-height-given = agreed (flame-height-of-kept agreement E) (flame-not-refused E s);
     }
 

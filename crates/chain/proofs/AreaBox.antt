@@ -13,7 +13,7 @@ use Rattle.pairs.specs.Answers.{answers}
 use Rattle.pairs.proofs.Rounding.{up-grows, down-grows}
 use Rattle.chain.specs.declared.enquiry.Enquiry.{Enquiry}
 use Rattle.chain.specs.Chain as chain
-use Rattle.chain.specs.Chain.{diameter, optical-depth, burning, flame-height, emissive-power-1, emissive-power-2, froude-number, flame-height-3, emissive-power-3, in-radii, diameter-of, unabsorbed-of, heat-release-of, froude-number-of, flame-1-of, flame-2-of, flame-3-of, flame-of, relative-distance-of}
+use Rattle.chain.specs.Chain.{diameter, optical-depth, burning, flame-height, emissive-power-1, emissive-power-2, froude-number, flame-height-3, emissive-power-3, in-radii, diameter-of, unabsorbed-of, heat-release-of, burning-rate-of, froude-number-of, flame-1-of, flame-2-of, flame-3-of, flame-of, relative-distance-of}
 use Rattle.chain.proofs.Bounds as B
 use Rattle.chain.proofs.Bounds.{Bound, bound, bounds, root-below}
 use Rattle.chain.proofs.Within.{Held, Within, within}
@@ -21,7 +21,7 @@ use Rattle.chain.proofs.Steps.{choice-kept, diameter-kept, burning-kept
 use Rattle.chain.proofs.Boxes.{known, passing, tests-passed, passed, constant-held, times-over-held, every, each}
 use Rattle.chain.proofs.Sweep.{sweep}
 use Rattle.chain.proofs.Exponential.{spread, exp-bound, shallowest, deepest, burnt, Depth, unabsorbed}
-use Rattle.chain.proofs.Burning.{burns, burning-near}
+use Rattle.chain.proofs.Burning.{burning-near}
 use Rattle.chain.proofs.Radii.{thin, radii-near}
 use Rattle.chain.proofs.Configuration.{elevation-bound, relative-distance-bound}
 use Rattle.chain.proofs.Flame.{emissive-bound-1, emissive-bound-2, emissive-bound-3, emissive-bound, flame-width, Shown, with-power, flame-test, From, flame-swept}
@@ -153,6 +153,7 @@ pub record Area (E : Enquiry) : Type 0 where
   pub diameter : Held (diameter-of answers E) diameter-bound
   pub unabsorbed : Held (unabsorbed-of answers E) exp-bound
   pub heat-release : (heat-release-of answers E) .number ≡ 0
+  pub burning-rate : (burning-rate-of answers E) .number ≡ 0
   pub distance : 1_000 ≤ E .distance → E .distance ≤ 200_000 → Held (relative-distance-of answers E) relative-distance-bound
   pub distance-near : 1_000 ≤ E .distance → E .distance ≤ 200_000 → (relative-distance-of answers E) .pair .high ≤ (relative-distance-of answers E) .pair .low + thin ((relative-distance-of answers E) .pair .low)
   pub elevation : (n : ℕ) → n ≤ 20_000 → Held (in-radii answers (answers .constant n 1000) (diameter-of answers E)) elevation-bound
@@ -171,7 +172,7 @@ module _ (E : Enquiry) (D : Bound) (d : Within (diameter-of answers E) D) where
   unfolding flame-2-of
   from-heat = record { height-within = flame-height-kept within d; power-within = emissive-power-2-kept within d }
 
-  from-mass : From (burns (E .rate) E) (flame-3-of answers E) (smoky-height D) (λ _ _. emissive-power-3 bounds D)
+  from-mass : From (burning-rate-of answers E) (flame-3-of answers E) (smoky-height D) (λ _ _. emissive-power-3 bounds D)
   unfolding flame-3-of froude-number-of
   from-mass =
       record {
@@ -187,7 +188,7 @@ by-method E p s t =
     (choice-kept (Shown E) (eqb (E .method) 2) s t)
 
 pub area-tested : (a b : ℕ) → T (area-test a b) → (n : ℕ) → a ≤ n → n ≤ b → (E : Enquiry) → n ≡ E .area → Fuel E → Area E
-unfolding area-test diameter-of heat-release-of relative-distance-of heat-box mass-box
+unfolding area-test diameter-of heat-release-of burning-rate-of relative-distance-of heat-box mass-box
 area-tested a b t n l u E e F =
     let D = diameter bounds (area-box a b) in
     let least = burnt-from D in
@@ -216,6 +217,7 @@ area-tested a b t n l u E e F =
       diameter = passed diameter-bound (c .1 .0) dw;
       unabsorbed = X .0;
       heat-release = q .given;
+      burning-rate = m .given;
       distance = λ lo hi. passed relative-distance-bound (c₅ .0) (distance lo hi);
       distance-near = λ lo hi. radii-near (E .distance) E D d (p .least) narrow (distance lo hi .where-safe (s .safe) .given);
       elevation = λ n small. passed elevation-bound (c₅ .1 .0) (in-radii-kept within (known (thousandths-held n 0 20_000 zero-le small (lit≤ tt))) dw);

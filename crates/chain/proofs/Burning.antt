@@ -29,13 +29,13 @@ product-near S N N' w least b z l n u =
     rounded-near (S * N) (S * N') (S * w) (up ((b + 1) * w) least) (omega (arith, mul-le-mul-left S n, mul-add S N w))
     (le-of-mul-le-mul-right part z)
   where
-    burns : S * least ≤ (b + 1) * U
-    burns = omega (arith, mul-le-mul-left S l, down-covers (S * N) U (lit< {n = U} tt))
+    full : S * least ≤ (b + 1) * U
+    full = omega (arith, mul-le-mul-left S l, down-covers (S * N) U (lit< {n = U} tt))
 
     part : S * w * least ≤ up ((b + 1) * w) least * U * least
     part =
         rw (mul-right-comm S w least)
-        (le-trans (mul-le-mul-right w burns)
+        (le-trans (mul-le-mul-right w full)
         (rw (mul-right-comm (b + 1) U w, mul-right-comm (up ((b + 1) * w) least) U least)
         (mul-le-mul-right U (up-covers ((b + 1) * w) least z))))
 

@@ -8,7 +8,7 @@ use lib.Signed.{nonNeg}
 use Rattle.pairs.specs.Arithmetic.{Arithmetic}
 use Rattle.pairs.proofs.Kept.{Kept, one-kept, atan-kept, pi-kept, exp-neg-kept, ln-ten-kept}
 use Rattle.chain.specs.declared.enquiry.Enquiry.{Enquiry}
-use Rattle.chain.specs.Chain.{Flame, diameter, radius, optical-depth, unabsorbed, burning, flame-height, emissive-power-1, radiant-fraction, flame-surface, emissive-power-2, froude-number, equal-factors, power-61-hundredths, flame-height-3, unobscured, emissive-power-3, in-radii, diameter-of, unabsorbed-of, heat-release-of, froude-number-of, flame-1-of, flame-2-of, flame-3-of, flame-of, flame-height-of, emissive-power-of, relative-height-of, relative-distance-of, relative-elevation-of, x, g, r, u, v, tilt, height-angle, vertical-ratio, vertical, horizontal-ratio, horizontal, by-face, factor, vertical-above, horizontal-above, vertical-below, horizontal-below, factor-at, transmitted, configuration-factor-of, clear-flux, radiant-flux}
+use Rattle.chain.specs.Chain.{Flame, diameter, radius, optical-depth, unabsorbed, burning, flame-height, emissive-power-1, radiant-fraction, flame-surface, emissive-power-2, froude-number, equal-factors, power-61-hundredths, flame-height-3, unobscured, emissive-power-3, in-radii, diameter-of, unabsorbed-of, heat-release-of, burning-rate-of, froude-number-of, flame-1-of, flame-2-of, flame-3-of, flame-of, flame-height-of, emissive-power-of, relative-height-of, relative-distance-of, relative-elevation-of, x, g, r, u, v, tilt, height-angle, vertical-ratio, vertical, horizontal-ratio, horizontal, by-face, factor, vertical-above, horizontal-above, vertical-below, horizontal-below, factor-at, transmitted, configuration-factor-of, clear-flux, radiant-flux}
 
 -- The same choice on both sides.
 pub choice-kept : {X Y : Type 0} (R : X → Y → Type 0) (b : Bool) {p q : X} {c d : Y} → R p c → R q d → R (elim b [ true ↦ p | false ↦ q ]) (elim b [ true ↦ c | false ↦ d ])
@@ -167,9 +167,13 @@ module _ {A B : Arithmetic} {R : A .Carrier → B .Carrier → Type 0} (K : Kept
     unfolding heat-release-of
     heat-release-of-kept = burning-kept (K .constant (E .rate * E .heat * E .area) 1000) unabsorbed-of-kept
 
+    pub burning-rate-of-kept : R (burning-rate-of A E) (burning-rate-of B E)
+    unfolding burning-rate-of
+    burning-rate-of-kept = burning-kept (K .constant (E .rate) 1000) unabsorbed-of-kept
+
     froude-number-of-kept : R (froude-number-of A E) (froude-number-of B E)
     unfolding froude-number-of
-    froude-number-of-kept = froude-number-kept diameter-of-kept (burning-kept (K .constant (E .rate) 1000) unabsorbed-of-kept)
+    froude-number-of-kept = froude-number-kept diameter-of-kept burning-rate-of-kept
 
     -- L and E of each method, and of the method of the enquiry.
     flame-1-of-kept : Both R (flame-1-of A E) (flame-1-of B E)

@@ -31,8 +31,8 @@ module _ (A : Arithmetic) where
   unfoldable pub unabsorbed : ℕ → A .Carrier → A .Carrier
   unabsorbed k D = exp-neg A (optical-depth k D)
 
-  -- 3. "Q = (m·c·a/1000)·(1-X), in kW; the first factor is taken as one exact pair." (A.3, A.4) Here it is full, the rate of a
-  -- large pool.
+  -- 3. "Q = (m·c·a/1000)·(1-X), in kW; the first factor is taken as one exact pair." (A.3, A.4) And request 5: "Method 3, in place
+  -- of steps 3 to 5, has M = (m/1000)·(1-X)." (004, equation 8b) Here full is the first factor of either.
   unfoldable pub burning : A .Carrier → A .Carrier → A .Carrier
   burning full X = A .product full (A .difference (one A) X)
 
@@ -56,13 +56,12 @@ module _ (A : Arithmetic) where
   unfoldable pub emissive-power-2 : A .Carrier → A .Carrier → A .Carrier → A .Carrier
   emissive-power-2 D Q L = A .quotient (A .product (radiant-fraction D) Q) (flame-surface D L)
 
-  -- Request 5: "Method 3, in place of steps 3 to 5, has M = (m/1000)·(1-X)": burning, of m/1000. (004, equation 8b)
-  -- "then w = M/(1.2·root(9.81·D))." (004, equation 3)
+  -- Request 5, method 3: "then w = M/(1.2·root(9.81·D))." (004, equation 3)
   unfoldable pub froude-number : A .Carrier → A .Carrier → A .Carrier
   froude-number D M = A .quotient M (A .product (A .constant 12 10) (A .root (A .product (A .constant 981 100) D)))
 
   -- "L is 42·D times the 0.61 power of w. That power is two roots, then two fifth roots, then 61 equal factors." (004, equation 1)
-  -- Here b with n more factors b, from left to right.
+  -- Here equal-factors b n is b and n factors b more, from left to right.
   unfoldable pub equal-factors : A .Carrier → ℕ → A .Carrier
   equal-factors b zero = b
   equal-factors b (suc n) = A .product (equal-factors b n) b
@@ -186,11 +185,14 @@ module _ (A : Arithmetic) where
   unfoldable pub heat-release-of : Enquiry → A .Carrier
   heat-release-of E = burning (A .constant (E .rate * E .heat * E .area) 1000) (unabsorbed-of E)
 
-  -- Request 5: "m/1000"; "Its burning rate stays that of step 2."
-  unfoldable pub froude-number-of : Enquiry → A .Carrier
-  froude-number-of E = froude-number (diameter-of E) (burning (A .constant (E .rate) 1000) (unabsorbed-of E))
+  -- Request 5: "m/1000"; "Its burning rate stays that of step 2", whose X it takes. This is M, and then w.
+  unfoldable pub burning-rate-of : Enquiry → A .Carrier
+  burning-rate-of E = burning (A .constant (E .rate) 1000) (unabsorbed-of E)
 
-  -- 4 and 5. L and E by each method.
+  unfoldable pub froude-number-of : Enquiry → A .Carrier
+  froude-number-of E = froude-number (diameter-of E) (burning-rate-of E)
+
+  -- 4 and 5, and request 5: L and E by each method.
   unfoldable pub flame-1-of : Enquiry → Flame (A .Carrier)
   flame-1-of E =
       record { height = flame-height (diameter-of E) (heat-release-of E); power = emissive-power-1 (diameter-of E) }
@@ -204,7 +206,7 @@ module _ (A : Arithmetic) where
   flame-3-of E =
       record { height = flame-height-3 (diameter-of E) (froude-number-of E); power = emissive-power-3 (diameter-of E) }
 
-  -- The method of the enquiry: 1, 2 or 3.
+  -- By the method of the enquiry: 1, 2 or 3.
   unfoldable pub flame-of : Enquiry → Flame (A .Carrier)
   flame-of E =
       elim (eqb (E .method) 1) [

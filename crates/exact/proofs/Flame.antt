@@ -10,7 +10,7 @@ use Rattle.pairs.specs.Figures.{Figures}
 use Rattle.pairs.specs.Answers.{answers}
 use Rattle.pairs.specs.Series.{pi}
 use Rattle.chain.specs.declared.enquiry.Enquiry.{Enquiry}
-use Rattle.chain.specs.Chain.{diameter, radius, optical-depth, unabsorbed, burning, flame-height, emissive-power-1, radiant-fraction, flame-surface, emissive-power-2, froude-number, equal-factors, power-61-hundredths, flame-height-3, unobscured, emissive-power-3, in-radii, diameter-of, unabsorbed-of, heat-release-of, froude-number-of, flame-1-of, flame-2-of, flame-3-of, flame-of, flame-height-of, emissive-power-of, relative-height-of, relative-elevation-of, relative-distance-of}
+use Rattle.chain.specs.Chain.{diameter, radius, optical-depth, unabsorbed, burning, flame-height, emissive-power-1, radiant-fraction, flame-surface, emissive-power-2, froude-number, equal-factors, power-61-hundredths, flame-height-3, unobscured, emissive-power-3, in-radii, diameter-of, unabsorbed-of, heat-release-of, burning-rate-of, froude-number-of, flame-1-of, flame-2-of, flame-3-of, flame-of, flame-height-of, emissive-power-of, relative-height-of, relative-elevation-of, relative-distance-of}
 use Rattle.chain.proofs.Steps.{choice-kept, Both}
 use Rattle.exact.specs.Fraction.{_⊑_, whole, _⊗_, _⊘_, power}
 use Rattle.exact.specs.Depth as depth
@@ -160,7 +160,7 @@ module _ (n : ℕ) (deep : 8 ≤ n) (E : Enquiry) where
 
     -- 1.2·root(9.81·D) is at least 1.2.
     froude-number-meets : Meets (froude-number-of answers E) (froude-number-of (exact n) E)
-    unfolding froude-number-of froude-number depth.product depth.root depth.constant
+    unfolding froude-number-of froude-number burning-rate-of depth.product depth.root depth.constant
     froude-number-meets =
         quotient-meets (burning-meets (E .rate))
         (product-meets (constant-meets 12 10 (lit< tt) refl)

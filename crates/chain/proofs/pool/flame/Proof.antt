@@ -61,7 +61,7 @@ emissive-power-3-requires : tie.Need-emissive-power-3-requires
 emissive-power-3-requires c κs = search needs
 
 returns : tie.Need-returns
-unfolding chain.flame-3-of chain.froude-number-of chain.unabsorbed-of
+unfolding chain.flame-3-of chain.froude-number-of chain.burning-rate-of chain.unabsorbed-of
 returns c =
     let w = c .before .before in
     let s = w .before .before in
