@@ -15,6 +15,15 @@ pub choice-kept : {X Y : Type 0} (R : X → Y → Type 0) (b : Bool) {p q : X} {
 choice-kept R true h k = h
 choice-kept R false h k = k
 
+-- By equal factors, wherever one factor more keeps it.
+pub equal-factors-kept :
+    (A B : Arithmetic) (R : A .Carrier → B .Carrier → Type 0) {a : A .Carrier} {b : B .Carrier}
+    → ((p : A .Carrier) (q : B .Carrier) → R p q → R (A .product p a) (B .product q b))
+    → R a b → (n : ℕ) → R (equal-factors A a n) (equal-factors B b n)
+unfolding equal-factors
+equal-factors-kept A B R more h zero = h
+equal-factors-kept A B R more h (suc n) = more _ _ (equal-factors-kept A B R more h n)
+
 -- Both of the height and of the emissive power of two flames.
 pub record Both {X Y : Type 0} (R : X → Y → Type 0) (f : Flame X) (g : Flame Y) : Type 0 where
   pub height : R (f .height) (g .height)
@@ -54,15 +63,11 @@ module _ {A B : Arithmetic} {R : A .Carrier → B .Carrier → Type 0} (K : Kept
   unfolding froude-number
   froude-number-kept d m = K .quotient m (K .product (K .constant 12 10) (K .root (K .product (K .constant 981 100) d)))
 
-  equal-factors-kept : {b : A .Carrier} {c : B .Carrier} → R b c → (n : ℕ) → R (equal-factors A b n) (equal-factors B c n)
-  unfolding equal-factors
-  equal-factors-kept h zero = h
-  equal-factors-kept h (suc n) = K .product (equal-factors-kept h n) h
-
   pub flame-height-3-kept : {D w : A .Carrier} {D′ w′ : B .Carrier} → R D D′ → R w w′ → R (flame-height-3 A D w) (flame-height-3 B D′ w′)
   unfolding flame-height-3 power-61-hundredths
   flame-height-3-kept d w =
-      K .product (K .times d 42) (equal-factors-kept (K .fifth-root (K .fifth-root (K .root (K .root w)))) 60)
+      let b = K .fifth-root (K .fifth-root (K .root (K .root w))) in
+      K .product (K .times d 42) (equal-factors-kept A B R (λ p q h. K .product h b) b 60)
 
   pub emissive-power-3-kept : {D : A .Carrier} {D′ : B .Carrier} → R D D′ → R (emissive-power-3 A D) (emissive-power-3 B D′)
   unfolding emissive-power-3 unobscured

@@ -1,7 +1,7 @@
 -- Steps 1 to 6: rounded and exact overlap at every depth from 8 on, for an area and a distance within their limits.
 -- D lies between 1 and 51, so that every divisor is above 0, by each method, and e is at least 1/256. Assumes nothing.
 use mathlib.Core.Path.{refl}
-use Prim.Native.Nat.{ℕ, zero, suc, _*_, _≤_, _<_}
+use Prim.Native.Nat.{ℕ, zero, _*_, _≤_, _<_}
 use native.Mathlib.Nat.{le-refl}
 use native.Mathlib.Omega.{arith}
 use lib.Dec.{lit<, lit≤, eqb}
@@ -10,8 +10,8 @@ use Rattle.pairs.specs.Figures.{Figures}
 use Rattle.pairs.specs.Answers.{answers}
 use Rattle.pairs.specs.Series.{pi}
 use Rattle.chain.specs.declared.enquiry.Enquiry.{Enquiry}
-use Rattle.chain.specs.Chain.{diameter, radius, optical-depth, unabsorbed, burning, flame-height, emissive-power-1, radiant-fraction, flame-surface, emissive-power-2, froude-number, equal-factors, power-61-hundredths, flame-height-3, unobscured, emissive-power-3, in-radii, diameter-of, unabsorbed-of, heat-release-of, burning-rate-of, froude-number-of, flame-1-of, flame-2-of, flame-3-of, flame-of, flame-height-of, emissive-power-of, relative-height-of, relative-elevation-of, relative-distance-of}
-use Rattle.chain.proofs.Steps.{choice-kept, Both}
+use Rattle.chain.specs.Chain.{diameter, radius, optical-depth, unabsorbed, burning, flame-height, emissive-power-1, radiant-fraction, flame-surface, emissive-power-2, froude-number, power-61-hundredths, flame-height-3, unobscured, emissive-power-3, in-radii, diameter-of, unabsorbed-of, heat-release-of, burning-rate-of, froude-number-of, flame-1-of, flame-2-of, flame-3-of, flame-of, flame-height-of, emissive-power-of, relative-height-of, relative-elevation-of, relative-distance-of}
+use Rattle.chain.proofs.Steps.{choice-kept, equal-factors-kept, Both}
 use Rattle.exact.specs.Fraction.{_⊑_, whole, _⊗_, _⊘_, power}
 use Rattle.exact.specs.Depth as depth
 use Rattle.exact.specs.Depth.{Bracket, exact}
@@ -52,12 +52,6 @@ square-of-1-by-gravity = record { cross = lit≤ tt }
 least-speed-above-0 : zero < ((whole 12 ⊘ whole 10) ⊗ whole 1) .num
 unfolding whole _⊗_ _⊘_
 least-speed-above-0 = lit< tt
-
--- b with k more factors.
-equal-factors-meets : (n k : ℕ) {a : Figures} {x : Bracket} → Meets a x → Meets (equal-factors answers a k) (equal-factors (exact n) x k)
-unfolding equal-factors
-equal-factors-meets n zero h = h
-equal-factors-meets n (suc k) h = product-meets (equal-factors-meets n k h) h
 
 module _ (n : ℕ) (deep : 8 ≤ n) (E : Enquiry) where
   -- ---- step 1
@@ -116,8 +110,9 @@ module _ (n : ℕ) (deep : 8 ≤ n) (E : Enquiry) where
   flame-height-3-meets : {w : Figures} {W : Bracket} → Meets w W → Meets (flame-height-3 answers (diameter-of answers E) w) (flame-height-3 (exact n) D W)
   unfolding flame-height-3 power-61-hundredths
   flame-height-3-meets w =
+      let b = fifth-root-meets (fifth-root-meets (root-meets (root-meets w n) n) n) n in
       product-meets (times-meets diameter-meets 42)
-      (equal-factors-meets n 60 (fifth-root-meets (fifth-root-meets (root-meets (root-meets w n) n) n) n))
+      (equal-factors-kept answers (exact n) Meets (λ p q h. product-meets h b) b 60)
 
   emissive-power-3-meets : Meets (emissive-power-3 answers (diameter-of answers E)) (emissive-power-3 (exact n) D)
   unfolding emissive-power-3 unobscured
