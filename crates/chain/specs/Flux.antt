@@ -57,7 +57,7 @@ unfoldable pub height-outside : ℤ → Bool
 height-outside height =
     elim (nonNeg height) [ true ↦ outside 0 20_000 (natAbs height) | false ↦ outside 0 5_000 (natAbs height) ]
 
--- "16, flame too low, exactly when 4·L.low is under D.high"
+-- "16, flame too low, exactly when 4·L.low is under D.high"; request 5: "The flame test under 16 applies unchanged."
 unfoldable pub flame-too-low : Enquiry → Bool
 flame-too-low E = ltb (4 * (flame-height-of rounded E) .low) ((diameter-of rounded E) .high)
 
