@@ -24,7 +24,7 @@ use Rattle.chain.proofs.Exponential.{spread, exp-bound, shallowest, dee
 use Rattle.chain.proofs.Burning.{burning-near}
 use Rattle.chain.proofs.Radii.{thin, radii-near}
 use Rattle.chain.proofs.Configuration.{elevation-bound, relative-distance-bound}
-use Rattle.chain.proofs.Flame.{emissive-bound-1, emissive-bound-2, emissive-bound-3, emissive-bound, flame-width, Shown, with-power, flame-test, From, flame-swept}
+use Rattle.chain.proofs.Flame.{emissive-bound-1, emissive-bound-2, emissive-bound-3, emissive-bound, flame-width, FlameBounded, with-power, flame-test, From, flame-swept}
 
 abbrev pub diameter-bound : Bound
 diameter-bound = record { least = U; most = 50 * U; width = 6_000; safe = true }
@@ -157,7 +157,7 @@ pub record Area (E : Enquiry) : Type 0 where
   pub distance : 1_000 ≤ E .distance → E .distance ≤ 200_000 → Held (relative-distance-of answers E) relative-distance-bound
   pub distance-near : 1_000 ≤ E .distance → E .distance ≤ 200_000 → (relative-distance-of answers E) .pair .high ≤ (relative-distance-of answers E) .pair .low + thin ((relative-distance-of answers E) .pair .low)
   pub elevation : (n : ℕ) → n ≤ 20_000 → Held (in-radii answers (answers .constant n 1000) (diameter-of answers E)) elevation-bound
-  pub flame : Shown E (flame-of answers E) (emissive-bound (E .method))
+  pub flame : FlameBounded E (flame-of answers E) (emissive-bound (E .method))
 
 rates : (E : Enquiry) → Fuel E → E .rate * E .heat * E .area ≤ 75_000 * E .area
 rates E F = mul-le-mul-right (E .area) (mul-le-mul (F .most-rate) (F .heat))
@@ -181,11 +181,11 @@ module _ (E : Enquiry) (D : Bound) (d : Within (diameter-of answers E) D) where
       }
 
 -- The method of the enquiry is one of the three.
-by-method : (E : Enquiry) → Held (emissive-power-1 answers (diameter-of answers E)) emissive-bound-1 → Shown E (flame-2-of answers E) emissive-bound-2 → Shown E (flame-3-of answers E) emissive-bound-3 → Shown E (flame-of answers E) (emissive-bound (E .method))
+by-method : (E : Enquiry) → Held (emissive-power-1 answers (diameter-of answers E)) emissive-bound-1 → FlameBounded E (flame-2-of answers E) emissive-bound-2 → FlameBounded E (flame-3-of answers E) emissive-bound-3 → FlameBounded E (flame-of answers E) (emissive-bound (E .method))
 unfolding flame-of flame-1-of flame-2-of emissive-bound
 by-method E p s t =
-    choice-kept (Shown E) (eqb (E .method) 1) (with-power (emissive-power-1 answers (diameter-of answers E)) emissive-bound-1 p s)
-    (choice-kept (Shown E) (eqb (E .method) 2) s t)
+    choice-kept (FlameBounded E) (eqb (E .method) 1) (with-power (emissive-power-1 answers (diameter-of answers E)) emissive-bound-1 p s)
+    (choice-kept (FlameBounded E) (eqb (E .method) 2) s t)
 
 pub area-tested : (a b : ℕ) → T (area-test a b) → (n : ℕ) → a ≤ n → n ≤ b → (E : Enquiry) → n ≡ E .area → Fuel E → Area E
 unfolding area-test diameter-of heat-release-of burning-rate-of relative-distance-of heat-box mass-box

@@ -52,12 +52,12 @@ pub record High (E : Enquiry) (f : Flame Figures) (span : Bound) : Type 0 where
   pub height-near : 1_000 ≤ E .distance → E .distance ≤ 200_000 → (in-radii answers (f .height) (diameter-of answers E)) .pair .high ≤ (in-radii answers (f .height) (diameter-of answers E)) .pair .low + flame-width ((relative-distance-of answers E) .pair .low)
   pub power : Held (f .power) span
 
-pub record Shown (E : Enquiry) (f : Flame Figures) (span : Bound) : Type 0 where
+pub record FlameBounded (E : Enquiry) (f : Flame Figures) (span : Bound) : Type 0 where
   pub not-refused : (f .height) .number ≡ 0
   pub high : (diameter-of answers E) .pair .high ≤ 4 * (f .height) .pair .low → High E f span
 
 -- The same flame with another emissive power.
-pub with-power : {E : Enquiry} {f : Flame Figures} {span : Bound} (P : Figures) (other : Bound) → Held P other → Shown E f span → Shown E (record { height = f .height; power = P }) other
+pub with-power : {E : Enquiry} {f : Flame Figures} {span : Bound} (P : Figures) (other : Bound) → Held P other → FlameBounded E f span → FlameBounded E (record { height = f .height; power = P }) other
 with-power P other p s =
     record {
       not-refused = s .not-refused;
@@ -109,7 +109,7 @@ module _ (E : Enquiry) (D : Bound) (d : Held (diameter-of answers E) D) (allowed
       let i = q .inside in
       in-box a b _ (q .given) l u (i .ordered) (omega (arith, i .near, narrow b u))
 
-  flame-tested : (a b : ℕ) → T (flame-test height power span D (Q .width) least allowed a b) → (i : ℕ) → a ≤ i → i ≤ b → i ≡ rate .pair .low → Shown E f span
+  flame-tested : (a b : ℕ) → T (flame-test height power span D (Q .width) least allowed a b) → (i : ℕ) → a ≤ i → i ≤ b → i ≡ rate .pair .low → FlameBounded E f span
   unfolding flame-test
   flame-tested a b t i l u e =
       let heat = rate-boxed a b (rw e at l) (rw e at u) in
@@ -143,7 +143,7 @@ module _ (E : Enquiry) (D : Bound) (d : Held (diameter-of answers E) D) (allowed
       }
 
   -- Every rate inside its bound.
-  pub flame-swept : (next : ℕ → ℕ) (n : ℕ) → T (sweep (flame-test height power span D (Q .width) least allowed) next n (Q .least) (suc (Q .most))) → Shown E f span
+  pub flame-swept : (next : ℕ → ℕ) (n : ℕ) → T (sweep (flame-test height power span D (Q .width) least allowed) next n (Q .least) (suc (Q .most))) → FlameBounded E f span
   flame-swept next n t =
-      swept (flame-test height power span D (Q .width) least allowed) next (λ i. i ≡ rate .pair .low → Shown E f span) flame-tested
+      swept (flame-test height power span D (Q .width) least allowed) next (λ i. i ≡ rate .pair .low → FlameBounded E f span) flame-tested
       n (Q .least) (suc (Q .most)) t (rate .pair .low) (q .inside .low) (below-last q) refl
