@@ -10,10 +10,11 @@ use lib.Dec.{T, eqb, lit<}
 use borrow.Author.Tests.{ltb-false}
 use lib.IntN.{natAbs}
 use lib.Signed.{nonNeg}
+use Rattle.pairs.specs.declared.answer.Pair.{Pair}
 use Rattle.pairs.specs.Rounded.{U, rounded, up, down}
 use Rattle.pairs.specs.Figures.{Figures, given}
 use Rattle.pairs.specs.Answers.{answers}
-use Rattle.pairs.proofs.Agreement.{agreed, agreement}
+use Rattle.pairs.proofs.Agreement.{Agrees, agreed, agreement}
 use Rattle.chain.specs.declared.enquiry.Enquiry.{Enquiry}
 use Rattle.chain.specs.Chain.{diameter-of, unabsorbed-of, heat-release-of, burning-rate-of, flame-of, flame-height-of, emissive-power-of, relative-height-of, relative-elevation-of, relative-distance-of, configuration-factor-of, transmitted, clear-flux, radiant-flux}
 use Rattle.chain.specs.Flux.{outside, fuel-within, flame-too-low, stage-too-large, low-of, high-of, note-of, flux-of, Shown}
@@ -22,7 +23,7 @@ use Rattle.chain.proofs.Bounds as B
 use Rattle.chain.proofs.Bounds.{Bound, bound}
 use Rattle.chain.proofs.Inside.{Inside}
 use Rattle.chain.proofs.Within.{Held, within}
-use Rattle.chain.proofs.Steps.{diameter-of-kept, unabsorbed-of-kept, heat-release-of-kept, burning-rate-of-kept, flame-height-of-kept, clear-flux-kept, radiant-flux-kept}
+use Rattle.chain.proofs.Steps.{diameter-of-kept, unabsorbed-of-kept, heat-release-of-kept, burning-rate-of-kept, flame-height-of-kept, emissive-power-of-kept, clear-flux-kept, radiant-flux-kept}
 use Rattle.chain.proofs.Boxes.{known, passing, passed, times-over-held, either}
 use Rattle.chain.proofs.Configuration.{relative-height-bound, elevation-bound, relative-distance-bound, spaced, factor-at-held}
 use Rattle.chain.proofs.Flame.{emissive-bound-1, emissive-bound-2, emissive-bound-3, emissive-bound, High}
@@ -99,7 +100,7 @@ bounded E t =
 
 -- E·F in trillionths of a kW/m², whatever the method, the face and the height.
 abbrev clear-bound : Bound
-clear-bound = record { least = 0; most = 6_300 * U; width = 2_000 * U; safe = true }
+clear-bound = record { least = 0; most = 6_300 * U; width = 2_100 * U; safe = true }
 
 -- Method 2 has the widest span.
 widest : (method : ℕ) → T (passing emissive-bound-2 (emissive-bound method))
@@ -108,8 +109,15 @@ widest method =
     let P : Bound → Type 0 = λ b. T (passing emissive-bound-2 b) in
     either P (eqb method 1) {x = emissive-bound-1} tt (either P (eqb method 2) {x = emissive-bound-2} {y = emissive-bound-3} tt tt)
 
+-- What holds of an answer holds of the rounded pair that it gives.
+agreed-inside : {f : Figures} {p : Pair} {b : Bound} → Agrees f p → Held f b → Inside p b
+agreed-inside {b = b} a h = subst (λ p. Inside p b) (a .same (h .given)) (h .inside)
+
 power-held : (E : Enquiry) → Bounded E → Held (emissive-power-of answers E) emissive-bound-2
 power-held E s = passed emissive-bound-2 (widest (E .method)) (known (s .power))
+
+pub power-inside : (E : Enquiry) → Tested E → Inside (emissive-power-of rounded E) emissive-bound-2
+power-inside E t = agreed-inside (emissive-power-of-kept agreement E) (power-held E (bounded E t))
 
 clear-held : (E : Enquiry) → Tested E → Held (clear-flux answers E) clear-bound
 unfolding clear-flux configuration-factor-of passing B.product bound up down
@@ -135,7 +143,7 @@ pub accepted : (E : Enquiry) → Tested E → Accepted E
 unfolding radiant-flux
 accepted E t =
     let h = clear-held E t in
-    let i = subst (λ (f : Figures). Inside (f .pair) clear-bound) (agreed (clear-flux-kept agreement E) (h .given)) (h .inside) in
+    let i = agreed-inside (clear-flux-kept agreement E) h in
     let clear = clear-flux rounded E in
     let most = transmissivity E (t .limited) in
     record {

@@ -6,6 +6,8 @@ use lib.Dec.{leb, ltb}
 use Rattle.pairs.specs.Arithmetic.{Arithmetic}
 use Rattle.pairs.specs.Rounded.{U, down, up, fifth-power-up, fifth-power-down}
 use Rattle.pairs.proofs.FifthPower.{U⁴, slope, loss}
+use Rattle.chain.specs.Chain.{most-exposed}
+use Rattle.chain.proofs.Hypotenuse.{slack}
 
 pub record Bound : Type 0 where
   pub least : ℕ
@@ -92,9 +94,6 @@ fifth-root b =
     let t = fifth-root-above (b .most) in
     bound (b .safe) s t (fifth-root-width s t (b .width))
 
-unfoldable pub larger : Bound → Bound → Bound
-larger b c = bound (b .safe && c .safe) (max (b .least) (c .least)) (max (b .most) (c .most)) (max (b .width) (c .width))
-
 unfoldable pub high-only : Bound → Bound
 high-only b = bound (b .safe) 0 (b .most) (b .most)
 
@@ -124,10 +123,15 @@ bounds =
       over = over;
       root = root;
       fifth-root = fifth-root;
-      larger = larger;
       high-only = high-only;
       pairs-of-terms = 8;
       at-most-one = at-most-one;
       at-most-a-third = at-most-a-third;
       below-256 = below-256;
     }
+
+-- The tilted face: the ends of the root, and a width that is of use near 0 too.
+unfoldable pub exposed : Bound → Bound → Bound
+exposed b c =
+    let t = most-exposed bounds b c in
+    record { least = t .least; most = t .most; width = b .width + c .width + slack; safe = t .safe && (b .safe && c .safe) }

@@ -15,6 +15,7 @@ use Rattle.chain.proofs.Bounds.{Bound, bound}
 use Rattle.chain.proofs.Within.{Held, within}
 use Rattle.chain.proofs.Boxes.{known, passing, passed, either}
 use Rattle.chain.proofs.Opened.{opened}
+use Rattle.chain.proofs.FaceBounds.{face-bound, by-face-within}
 use Rattle.chain.proofs.FactorSweep.{Grid, box-test, height-sweep, factor-sweep, Factors, factors}
 
 -- ---- where l, h and e lie, and how wide they may be
@@ -80,14 +81,24 @@ spaced h =
 
 -- ---- the factor of a face at a height
 -- From the base up the vertical factor is at most the sum of two.
-abbrev pub factor-bound : Bound
-factor-bound = record { least = 0; most = 34 * U; width = 6 * U; safe = true }
+abbrev upright-bound : Bound
+upright-bound = record { least = 0; most = 34 * U; width = 6 * U; safe = true }
 
-by-face-held : (face : ℕ) {f g : Figures} → Held f factor-bound → Held g factor-bound → Held (by-face answers face f g) factor-bound
-unfolding by-face passing B.larger bound
-by-face-held face p q =
-    let held : Figures → Type 0 = λ f. Held f factor-bound in
-    either held (eqb face 1) p (either held (eqb face 2) q (passed factor-bound tt (within .larger (known p) (known q))))
+abbrev level-bound : Bound
+level-bound = record { least = 0; most = U; width = 4 * U; safe = true }
+
+abbrev pub factor-bound : Bound
+factor-bound = record { least = 0; most = 34_020_000_000_000; width = 11 * U; safe = true }
+
+any-face : (face : ℕ) → T (passing factor-bound (face-bound face upright-bound level-bound))
+unfolding opened face-bound
+any-face face =
+    let P : Bound → Type 0 = λ b. T (passing factor-bound b) in
+    either P (eqb face 1) {x = upright-bound} tt
+    (either P (eqb face 2) {x = level-bound} {y = B.exposed upright-bound level-bound} tt tt)
+
+by-face-held : (face : ℕ) {f g : Figures} → Held f upright-bound → Held g level-bound → Held (by-face answers face f g) factor-bound
+by-face-held face p q = passed factor-bound (any-face face) (by-face-within face (known p) (known q))
 
 module _ (l : Figures) {h e : Figures} (E : Spaced e) (H : Held h seen-bound) where
   pub above-held :
@@ -97,17 +108,17 @@ module _ (l : Figures) {h e : Figures} (E : Spaced e) (H : Held h seen-bound) wh
   above-held between beyond face =
       let f = one-factor between E in
       by-face-held face
-      (passed factor-bound tt
+      (passed upright-bound tt
       (within .difference (within .sum (known (one-factor H E .upright)) (known (f .upright))) (known (one-factor beyond E .upright))))
-      (passed factor-bound tt (known (f .level)))
+      (passed level-bound tt (known (f .level)))
 
   below-held : Held (answers .sum l h) seen-bound → (face : ℕ) → Held (factor-at answers false face l h e) factor-bound
   unfolding factor-at vertical-below horizontal-below passing B.difference bound
   below-held together face =
       let f = one-factor together E in
       let g = one-factor H E in
-      by-face-held face (passed factor-bound tt (within .difference (known (f .upright)) (known (g .upright))))
-      (passed factor-bound tt (within .difference (known (f .level)) (known (g .level))))
+      by-face-held face (passed upright-bound tt (within .difference (known (f .upright)) (known (g .upright))))
+      (passed level-bound tt (within .difference (known (f .level)) (known (g .level))))
 
 pub factor-at-held :
     {l h e : Figures} → Held l relative-height-bound → Held h elevation-bound → Spaced e → (up : Bool) (face : ℕ)

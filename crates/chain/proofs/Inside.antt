@@ -9,12 +9,14 @@ use lib.Dec.{T, leb, ltb, leb→le, ltb→lt, lit<}
 use lib.Ieee.Fits.{and-l, and-r}
 use Rattle.pairs.specs.declared.answer.Pair.{Pair}
 use Rattle.pairs.specs.Rounded as R
-use Rattle.pairs.specs.Rounded.{U, up, down, root-down, root-up, fifth-root-down, fifth-root-up, fifth-power-up, fifth-power-down}
+use Rattle.pairs.specs.Rounded.{U, rounded, up, down, root-down, root-up, fifth-root-down, fifth-root-up, fifth-power-up, fifth-power-down}
 use Rattle.pairs.proofs.Rounding.{up-covers, up-least, up-grows, down-grows, down-within, down-covers}
 use Rattle.pairs.proofs.Search.{by-test, self-square, fifth-root-up-within, root-down-passes, root-down-bound, root-down-next, root-up-passes, root-up-bound, fifth-root-down-passes, fifth-root-down-bound, fifth-root-up-passes, fifth-root-up-bound}
 use Rattle.pairs.proofs.FifthPower.{U⁴, slope, loss, fifth-root-near}
 use Rattle.pairs.proofs.Ordered as O
 use Rattle.pairs.proofs.Ordered.{Ordered}
+use Rattle.chain.specs.Chain.{most-exposed}
+use Rattle.chain.proofs.Hypotenuse.{exposed-near}
 use Rattle.chain.proofs.Bounds as B
 use Rattle.chain.proofs.Bounds.{Bound, bound, first-passing}
 
@@ -52,10 +54,6 @@ times-inside {p} {b} h n =
 pub high-only-inside : {p : Pair} {b : Bound} → Inside p b → Inside (R.high-only p) (B.high-only b)
 unfolding R.high-only B.high-only bound
 high-only-inside h = record { low = zero-le; ordered = zero-le; high = h .high; near = omega arith }
-
-pub larger-inside : {p q : Pair} {b c : Bound} → Inside p b → Inside q c → Inside (R.larger p q) (B.larger b c)
-unfolding R.larger B.larger bound
-larger-inside h k = record { low = omega arith; ordered = omega arith; high = omega arith; near = omega arith }
 
 -- ---- product: b·d is at most a·c and each width times the other's high end
 product-width : (a b c d M N X W : ℕ) → b ≤ a + X → d ≤ c + W → b ≤ M → d ≤ N → c ≤ d → b * d ≤ a * c + (M * W + X * N)
@@ -221,3 +219,10 @@ fifth-root-inside {p} {b} h =
       high = high;
       near = fifth-root-width-holds (p .low) (p .high) (B.fifth-root-below (b .least)) (B.fifth-root-above (b .most)) (b .width) (h .near) low (le-trans ordered high) high;
     }
+
+-- ---- the tilted face
+pub most-exposed-inside : {p q : Pair} {b c : Bound} → Inside p b → Inside q c → Inside (most-exposed rounded p q) (B.exposed b c)
+unfolding most-exposed B.exposed
+most-exposed-inside {p} {q} {b} {c} h k =
+    let i = root-inside (sum-inside (product-inside h h) (product-inside k k)) in
+    record { low = i .low; ordered = i .ordered; high = i .high; near = exposed-near p q (b .width) (c .width) (h .near) (k .near) }

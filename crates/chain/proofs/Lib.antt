@@ -1,8 +1,10 @@
+pub mod Hypotenuse
 pub mod Bounds
 pub mod Inside
 pub mod Within
 pub mod Sweep
 pub mod Steps
+pub mod FaceBounds
 pub mod FactorRun
 pub mod Boxes
 pub mod Opened
@@ -18,6 +20,7 @@ pub mod Haze
 pub mod Limits
 pub mod Accepted
 pub mod Level
+pub mod WorstFace
 pub mod FactorAlone
 pub mod Examples
 pub mod Given

@@ -8,7 +8,7 @@ use lib.Signed.{nonNeg}
 use Rattle.pairs.specs.Arithmetic.{Arithmetic}
 use Rattle.pairs.proofs.Kept.{Kept, one-kept, atan-kept, pi-kept, exp-neg-kept, ln-ten-kept}
 use Rattle.chain.specs.declared.enquiry.Enquiry.{Enquiry}
-use Rattle.chain.specs.Chain.{Flame, diameter, radius, optical-depth, unabsorbed, burning, flame-height, emissive-power-1, radiant-fraction, flame-surface, emissive-power-2, froude-number, equal-factors, power-61-hundredths, flame-height-3, unobscured, emissive-power-3, in-radii, diameter-of, unabsorbed-of, heat-release-of, burning-rate-of, froude-number-of, flame-1-of, flame-2-of, flame-3-of, flame-of, flame-height-of, emissive-power-of, relative-height-of, relative-distance-of, relative-elevation-of, x, g, r, u, v, tilt, height-angle, vertical-ratio, vertical, horizontal-ratio, horizontal, by-face, factor, vertical-above, horizontal-above, vertical-below, horizontal-below, factor-at, transmitted, configuration-factor-of, clear-flux, radiant-flux}
+use Rattle.chain.specs.Chain.{Flame, diameter, radius, optical-depth, unabsorbed, burning, flame-height, emissive-power-1, radiant-fraction, flame-surface, emissive-power-2, froude-number, equal-factors, power-61-hundredths, flame-height-3, unobscured, emissive-power-3, in-radii, diameter-of, unabsorbed-of, heat-release-of, burning-rate-of, froude-number-of, flame-1-of, flame-2-of, flame-3-of, flame-of, flame-height-of, emissive-power-of, relative-height-of, relative-distance-of, relative-elevation-of, x, g, r, u, v, tilt, height-angle, vertical-ratio, vertical, horizontal-ratio, horizontal, most-exposed, by-face, factor, vertical-above, horizontal-above, vertical-below, horizontal-below, factor-at, transmitted, configuration-factor-of, clear-flux, radiant-flux}
 
 -- The same choice on both sides.
 pub choice-kept : {X Y : Type 0} (R : X → Y → Type 0) (b : Bool) {p q : X} {c d : Y} → R p c → R q d → R (elim b [ true ↦ p | false ↦ q ]) (elim b [ true ↦ c | false ↦ d ])
@@ -133,9 +133,13 @@ module _ {A B : Arithmetic} {R : A .Carrier → B .Carrier → Type 0} (K : Kept
       (K .difference (atan-kept K (K .root (K .quotient (g-kept k) k))) (K .product (horizontal-ratio-kept h k) (tilt-kept h k)))
       (pi-kept K)
 
+  pub most-exposed-kept : {p q : A .Carrier} {b c : B .Carrier} → R p b → R q c → R (most-exposed A p q) (most-exposed B b c)
+  unfolding most-exposed
+  most-exposed-kept h k = K .root (K .sum (K .product h h) (K .product k k))
+
   pub by-face-kept : (face : ℕ) {p q : A .Carrier} {b c : B .Carrier} → R p b → R q c → R (by-face A face p q) (by-face B face b c)
   unfolding by-face
-  by-face-kept face h k = choice-kept R (eqb face 1) h (choice-kept R (eqb face 2) k (K .larger h k))
+  by-face-kept face h k = choice-kept R (eqb face 1) h (choice-kept R (eqb face 2) k (most-exposed-kept h k))
 
   pub factor-kept : (face : ℕ) {l e : A .Carrier} {b c : B .Carrier} → R l b → R e c → R (factor A face l e) (factor B face b c)
   unfolding factor

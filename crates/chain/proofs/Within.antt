@@ -97,15 +97,7 @@ over-within {f} {b} h n =
     (rw (refuse-given (eqb n 0) 62 fits (not-0 n above))
     (held-fitting (ltb 0 n && b .safe) (d .least) (d .most) (d .width) (I.over-inside i n above) s)))
 
--- The worst face and last terms are not tested for 61.
-larger-within : {f g : Figures} {b c : Bound} → Within f b → Within g c → Within (A.larger f g) (B.larger b c)
-unfolding A.larger A.larger-of B.larger bound
-larger-within {f} {g} {b} {c} h k =
-    let d = B.larger b c in
-    let both : T (d .safe) → T (b .safe && c .safe) = λ s. and-r (ltb (d .most) (2 ^ 64)) (b .safe && c .safe) s in
-    two-held (fitting (R.larger (f .pair) (g .pair))) d h k (λ s. and-l (b .safe) (c .safe) (both s)) (λ s. and-r (b .safe) (c .safe) (both s))
-    (λ s i j. held-fitting (b .safe && c .safe) (d .least) (d .most) (d .width) (I.larger-inside i j) s)
-
+-- A last term is not tested for 61.
 high-only-within : {f : Figures} {b : Bound} → Within f b → Within (A.high-only f) (B.high-only b)
 unfolding A.high-only A.high-only-of B.high-only bound
 high-only-within {f} {b} h =
@@ -142,7 +134,6 @@ within =
       over = over-within;
       root = λ h. one-fitting (R.root _) _ _ _ h I.root-inside;
       fifth-root = λ h. one-fitting (R.fifth-root _) _ _ _ h I.fifth-root-inside;
-      larger = larger-within;
       high-only = high-only-within;
       at-most-one = λ {a} {b} h. spanning-within (ltb U (a .pair .high)) _ h (over-the-limit U);
       at-most-a-third = λ {a} {b} h. spanning-within (ltb (R.up (U * U) (3 * U)) (a .pair .high)) _ h (over-the-limit (R.up (U * U) (3 * U)));

@@ -1,5 +1,5 @@
 -- Document 01, "Chain": steps 1 to 8 over any arithmetic, each with its formula in ISO 24678-7; with the heights of request 1, the
--- haze of request 3 and the smoky fuels of request 5, whose formulas are those of source document 004.
+-- haze of request 3, the smoky fuels of request 5, whose formulas are those of source document 004, and the tilted face of request 6.
 -- A height is an integer: `natAbs` is its magnitude, `nonNeg` says that it is not negative.
 use Prim.Native.Nat.{ℕ, zero, suc, _*_}
 use mathlib.Core.Bool.{Bool, true, false}
@@ -132,12 +132,16 @@ module _ (A : Arithmetic) where
       (A .difference (atan A (A .root (A .quotient (g e) e))) (A .product (horizontal-ratio l e) (tilt l e)))
       (pi A)
 
-  -- "face 1 (vertical), 2 (horizontal, looking up) or 3 (worst)"; "worst: the larger low end and the larger high end of the two."
+  -- Request 6: "the tilted face, the most exposed orientation": "Face 3 becomes the root of Fv·Fv + Fh·Fh." (003, equation 20)
+  unfoldable pub most-exposed : A .Carrier → A .Carrier → A .Carrier
+  most-exposed upright level = A .root (A .sum (A .product upright upright) (A .product level level))
+
+  -- "face 1 (vertical), 2 (horizontal, looking up) or 3 (worst)"
   unfoldable pub by-face : ℕ → A .Carrier → A .Carrier → A .Carrier
   by-face face upright level =
       elim (eqb face 1) [
         | true ↦ upright
-        | false ↦ elim (eqb face 2) [ true ↦ level | false ↦ A .larger upright level ]
+        | false ↦ elim (eqb face 2) [ true ↦ level | false ↦ most-exposed upright level ]
       ]
 
   unfoldable pub factor : ℕ → A .Carrier → A .Carrier → A .Carrier

@@ -15,7 +15,7 @@ pub struct Enquiry {
     pub method: u8,
     // rim distance d, mm
     pub distance: u32,
-    // 1 vertical, 2 horizontal, 3 worst
+    // 1 vertical, 2 horizontal, 3 tilted
     pub face: u8,
     // height of the target above the flame's base, mm; negative below it
     pub height: i32,

@@ -1,4 +1,4 @@
-// Step 7: the configuration factor of a vertical, a horizontal or the worst face, at any height of the target.
+// Step 7: the configuration factor of a vertical, a horizontal or the tilted face, at any height of the target.
 // What depends on e alone is worked once for all factors of a target, and u, v and A once for both faces.
 use super::allowed::outside;
 use super::enquiry::Factor;
@@ -6,7 +6,6 @@ use super::enquiry::Outside;
 use super::lifted::atan_of;
 use super::lifted::difference_of;
 use super::lifted::exact;
-use super::lifted::larger_of;
 use super::lifted::pi_answer;
 use super::lifted::product_of;
 use super::lifted::quotient_of;
@@ -173,6 +172,13 @@ fn horizontal(seen: Seen, rim: Rim, angle: Answer) -> Answer
     quotient_of(difference_of(angle, product_of(ratio, tilt)), pi_answer())
 }
 
+// The tilted face, the most exposed one: root(Fv·Fv + Fh·Fh).
+fn most_exposed(upright: Answer, level: Answer) -> Answer
+    ensures { λ r. ⌜ figures r ≡ chain.most-exposed answers (figures upright) (figures level) ⌝ }
+{
+    root_of(sum_of(product_of(upright, upright), product_of(level, level)))
+}
+
 // Whether an answer is the pair [0, 0].
 fn is_zero(a: Answer) -> bool
     ensures { λ r. ⌜ (r ≡ true → figures a ≡ given (ends 0 0)) × (figures a ≡ given (ends 0 0) → r ≡ true) ⌝ }
@@ -231,7 +237,7 @@ fn factor_above(face: u8, l: Answer, h: Answer, rim: Rim) -> Answer
         return level;
     }
     let up = upright_of(rim);
-    larger_of(vertical_above(vertical(seen, up), l, h, rim, up), level)
+    most_exposed(vertical_above(vertical(seen, up), l, h, rim, up), level)
 }
 
 // A target below the base: f(l+h) - f(h).
@@ -252,7 +258,7 @@ fn factor_below(face: u8, l: Answer, h: Answer, rim: Rim) -> Answer
         return level;
     }
     let up = upright_of(rim);
-    larger_of(difference_of(vertical(top, up), vertical(base, up)), level)
+    most_exposed(difference_of(vertical(top, up), vertical(base, up)), level)
 }
 
 // The factor of a face, from the base up or below it.

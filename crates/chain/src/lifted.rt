@@ -14,7 +14,6 @@ use pairs::root::root;
 use pairs::sum::sum;
 use pairs::times::times;
 ghost use mathlib.Core.Path.{_≡_};
-ghost use Prim.Native.Nat.{max};
 ghost use Rattle.pairs.specs.Rounded.{ends};
 ghost use Rattle.pairs.specs.Figures.{figures, given};
 ghost use Rattle.pairs.specs.Answers.{answers};
@@ -120,27 +119,6 @@ pub(crate) fn exp_neg_of(a: Answer) -> Answer
         return a;
     };
     exp_neg(p)
-}
-
-fn larger(a: u64, b: u64) -> u64
-    ensures { λ r. ⌜ r ≡ max a b ⌝ }
-{
-    if a < b { b } else { a }
-}
-
-pub(crate) fn larger_of(a: Answer, b: Answer) -> Answer
-    ensures { λ r. ⌜ figures r ≡ answers .larger (figures a) (figures b) ⌝ }
-{
-    let Answer::Is(p) = a else {
-        return a;
-    };
-    let Answer::Is(q) = b else {
-        return b;
-    };
-    Answer::Is(Pair {
-        low: larger(p.low, q.low),
-        high: larger(p.high, q.high),
-    })
 }
 
 // An exact pair.

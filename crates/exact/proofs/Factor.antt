@@ -10,7 +10,7 @@ use Rattle.pairs.specs.Figures.{Figures}
 use Rattle.pairs.specs.Answers.{answers}
 use Rattle.pairs.specs.Answers as answer
 use Rattle.pairs.specs.Series.{pi}
-use Rattle.chain.specs.Chain.{x, g, r, u, v, tilt, height-angle, vertical-ratio, vertical, horizontal-ratio, horizontal, by-face, vertical-above, horizontal-above, vertical-below, horizontal-below, factor-at}
+use Rattle.chain.specs.Chain.{x, g, r, u, v, tilt, height-angle, vertical-ratio, vertical, horizontal-ratio, horizontal, most-exposed, by-face, vertical-above, horizontal-above, vertical-below, horizontal-below, factor-at}
 use Rattle.chain.proofs.Steps.{choice-kept}
 use Rattle.exact.specs.Fraction.{Fraction, _⊑_, _⊗_, power}
 use Rattle.exact.specs.Depth as depth
@@ -18,7 +18,7 @@ use Rattle.exact.specs.Depth.{Bracket, exact}
 use Rattle.exact.proofs.Order.{_⟫_, ⊕-left, ⊕-right, ⊗-mono, 1-⊗, above-from, whole-above-0}
 use Rattle.exact.proofs.Root.{one-256th, root-above-0}
 use Rattle.exact.proofs.Sound.{Positive}
-use Rattle.exact.proofs.Meets.{Meets, constant-meets, sum-meets, difference-meets, product-meets, quotient-meets, root-meets, larger-meets}
+use Rattle.exact.proofs.Meets.{Meets, constant-meets, sum-meets, difference-meets, product-meets, quotient-meets, root-meets}
 use Rattle.exact.proofs.Arc.{one-meets, one-and-more, atan-meets, pi-meets, pi-low}
 
 pub pi-positive : (n : ℕ) → 1 ≤ n → Positive (pi (exact n))
@@ -131,10 +131,15 @@ module _ (n : ℕ) (deep : 8 ≤ n) {a b : Figures} {l e : Bracket} (away : one-
       (pi-meets n deep) (pi-positive n (omega arith))
 
 -- ---- at a height
+most-exposed-meets :
+    (n : ℕ) {f k : Figures} {y z : Bracket} → Meets f y → Meets k z → Meets (most-exposed answers f k) (most-exposed (exact n) y z)
+unfolding most-exposed
+most-exposed-meets n h k = root-meets (sum-meets (product-meets h h) (product-meets k k)) n
+
 by-face-meets :
     (n face : ℕ) {f k : Figures} {y z : Bracket} → Meets f y → Meets k z → Meets (by-face answers face f k) (by-face (exact n) face y z)
 unfolding by-face
-by-face-meets n face h k = choice-kept Meets (eqb face 1) h (choice-kept Meets (eqb face 2) k (larger-meets h k))
+by-face-meets n face h k = choice-kept Meets (eqb face 1) h (choice-kept Meets (eqb face 2) k (most-exposed-meets n h k))
 
 pub factor-at-meets :
     (n : ℕ) → 8 ≤ n → {a c b : Figures} {l h e : Bracket} → one-256th ⊑ e .low → Meets a l → Meets c h → Meets b e

@@ -12,8 +12,8 @@ use Rattle.pairs.specs.Answers.{admit, fitting}
 use Rattle.pairs.proofs.Agreement.{above-0}
 use Rattle.exact.specs.Depth as depth
 use Rattle.exact.specs.Depth.{Bracket}
-use Rattle.exact.proofs.Overlap.{Overlap, low-only, high-only-overlap, constant-overlap, sum-overlap, difference-overlap, product-overlap, quotient-overlap, times-overlap, over-overlap, root-overlap, fifth-root-overlap, larger-overlap}
-use Rattle.exact.proofs.Sound.{Sound, Positive, constant-sound, sum-sound, difference-sound, product-sound, quotient-sound, times-sound, over-sound, root-sound, larger-sound}
+use Rattle.exact.proofs.Overlap.{Overlap, low-only, high-only-overlap, constant-overlap, sum-overlap, difference-overlap, product-overlap, quotient-overlap, times-overlap, over-overlap, root-overlap, fifth-root-overlap}
+use Rattle.exact.proofs.Sound.{Sound, Positive, constant-sound, sum-sound, difference-sound, product-sound, quotient-sound, times-sound, over-sound, root-sound}
 use Rattle.exact.proofs.Passing.{Passing, after-passing, refuse-passing, admit-passing, fitting-passing}
 
 pub record Meets (f : Figures) (x : Bracket) : Type 0 where
@@ -68,14 +68,6 @@ module _ {a b : Figures} {x y : Bracket} (h : Meets a x) (k : Meets b y) where
       record {
         sound = product-sound (h .sound) (k .sound);
         overlap = after-two a b (λ u v. product-overlap (h .overlap u) (k .overlap v));
-      }
-
-  pub larger-meets : Meets (answers.larger a b) (depth.larger x y)
-  unfolding answers.larger answers.larger-of
-  larger-meets =
-      record {
-        sound = larger-sound (h .sound) (k .sound);
-        overlap = after-passing (λ r. Overlap r (depth.larger x y)) a _ (λ u. after-untested b (λ v. larger-overlap (h .overlap u) (k .overlap v)));
       }
 
   -- A divisor with low end 0 is refused by 62; at depth n it has to be shown that there is none.

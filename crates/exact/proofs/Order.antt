@@ -6,8 +6,7 @@ use native.Mathlib.Nat.{add-assoc, add-comm, add-left-comm, le-add-right, le-add
 use native.Mathlib.Decide.{decLe}
 use native.Mathlib.Omega.{arith}
 use lib.Dec.{T, lit<, leb→le, le→leb}
-use Rattle.pairs.proofs.Search.{by-test}
-use Rattle.exact.specs.Fraction.{Fraction, _⊑_, at-most, whole, _⊕_, _⊖_, _⊗_, _⊘_, power, larger}
+use Rattle.exact.specs.Fraction.{Fraction, _⊑_, at-most, whole, _⊕_, _⊖_, _⊗_, _⊘_, power}
 
 ruleset sorted = (mul-assoc, mul-comm, mul-left-comm)
 
@@ -219,18 +218,3 @@ pub power-grows : {x : Fraction} (k : ℕ) → whole 1 ⊑ x → x ⊑ power x (
 unfolding power
 power-grows zero h = to-1-⊗
 power-grows (suc k) h = to-1-⊗ ⟫ ⊗-mono (h ⟫ power-grows k h) ⊑-refl
-
--- ---- the larger of two
-pub larger-left : (x y : Fraction) → x ⊑ larger x y
-unfolding larger
-larger-left x y = by-test (λ c. x ⊑ c) (at-most x y) y x (λ t. at-most→ t) (λ t. ⊑-refl)
-
-pub larger-right : (x y : Fraction) → y ⊑ larger x y
-unfolding larger
-larger-right x y =
-    by-test (λ c. y ⊑ c) (at-most x y) y x (λ t. ⊑-refl)
-    (λ t. elim (either x y) [ inl h ↦ absurd (t (→at-most h)) | inr s ↦ ⊏→⊑ s ])
-
-pub larger-least : {x y z : Fraction} → x ⊑ z → y ⊑ z → larger x y ⊑ z
-unfolding larger
-larger-least {x} {y} {z} h k = by-test (λ c. c ⊑ z) (at-most x y) y x (λ t. k) (λ t. h)

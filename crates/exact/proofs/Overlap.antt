@@ -1,8 +1,8 @@
 -- A rounded pair [a, b] and an exact bracket [A, B] overlap when a ≤ B and A ≤ b, and each operation keeps that.
 -- Every operation grows or falls in each end, and rounding goes outwards. Assumes nothing.
 use mathlib.Core.Path.{_≡_, sym}
-use Prim.Native.Nat.{ℕ, zero, suc, _+_, _*_, _-_, _/_, _≤_, _<_, zero-le, max}
-use native.Mathlib.Nat.{mul-left-comm, mul-le-mul-right, mul-pos, le-refl, suc-pred-eq-of-pos, mul-one, one-mul, zero-lt-suc, zero-mul, div-zero, le-of-eq, le-of-lt, lt-of-not-le, max-eq-left, max-eq-right}
+use Prim.Native.Nat.{ℕ, zero, suc, _+_, _*_, _-_, _/_, _≤_, _<_, zero-le}
+use native.Mathlib.Nat.{mul-left-comm, mul-le-mul-right, mul-pos, le-refl, suc-pred-eq-of-pos, mul-one, one-mul, zero-lt-suc, zero-mul, div-zero, le-of-eq, lt-of-not-le}
 use native.Mathlib.Decide.{decLe}
 use native.Mathlib.Omega.{arith}
 use lib.Dec.{lit<}
@@ -14,7 +14,7 @@ use Rattle.pairs.proofs.Search.{root-down-passes, root-up-passes, fifth-root-do
 use Rattle.exact.specs.Fraction.{Fraction, _⊑_, whole, _⊕_, _⊗_, _⊘_, power}
 use Rattle.exact.specs.Depth as depth
 use Rattle.exact.specs.Depth.{Bracket}
-use Rattle.exact.proofs.Order.{_⟫_, ⊑-refl, ⊕-mono, ⊖-from, ⊖-to, ⊗-mono, ⊘-mono, 0-least, over-mono, 1-⊗, to-1-⊗, power-cancel, larger-left, larger-right, larger-least}
+use Rattle.exact.proofs.Order.{_⟫_, ⊑-refl, ⊕-mono, ⊖-from, ⊖-to, ⊗-mono, ⊘-mono, 0-least, over-mono, 1-⊗, to-1-⊗, power-cancel}
 use Rattle.exact.proofs.Root.{root-below-power, root-above-power}
 
 -- a trillionths as a fraction.
@@ -222,19 +222,6 @@ unfolding rounded.fifth-root
 fifth-root-overlap n h =
     root-overlap-by 4 n (fifth-power-above _ ⟫ trillionths-mono (fifth-root-down-passes _))
     (trillionths-mono (fifth-root-up-passes _) ⟫ fifth-power-below _) h
-
--- ---- the larger of two
-max-below : {z : Fraction} (a b : ℕ) → trillionths a ⊑ z → trillionths b ⊑ z → trillionths (max a b) ⊑ z
-max-below a b h k =
-    elim (decLe a b) [ yes p ↦ rw (max-eq-right p) k | no p ↦ rw (max-eq-left (le-of-lt (lt-of-not-le p))) h ]
-
-pub larger-overlap : {p q : Pair} {x y : Bracket} → Overlap p x → Overlap q y → Overlap (rounded.larger p q) (depth.larger x y)
-unfolding rounded.larger depth.larger
-larger-overlap {p} {q} {x} {y} h k =
-    record {
-      low = max-below (p .low) (q .low) (h .low ⟫ larger-left _ _) (k .low ⟫ larger-right _ _);
-      high = larger-least (h .high ⟫ trillionths-mono (omega arith)) (k .high ⟫ trillionths-mono (omega arith));
-    }
 
 -- ---- a term that counts in the high end of the rounded pair alone: of the exact one only the low end is bounded
 unfoldable pub low-only : Bracket → Bracket

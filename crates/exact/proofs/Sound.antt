@@ -6,8 +6,8 @@ use Prim.Native.Nat.{ℕ, zero, suc, _<_}
 use native.Mathlib.Nat.{le-refl}
 use borrow.Author.Tests.{lt-ltb}
 use Rattle.exact.specs.Fraction.{Fraction, _⊑_, above-0, whole, _⊕_, _⊗_, _⊘_}
-use Rattle.exact.specs.Depth.{Bracket, divides, constant, sum, difference, product, quotient, times, over, root, larger, high-only}
-use Rattle.exact.proofs.Order.{_⟫_, ⊑-refl, ⊕-mono, ⊖-mono, ⊗-mono, ⊘-mono, 0-least, over-mono, above-from, power-cancel, larger-left, larger-right, larger-least}
+use Rattle.exact.specs.Depth.{Bracket, divides, constant, sum, difference, product, quotient, times, over, root, high-only}
+use Rattle.exact.proofs.Order.{_⟫_, ⊑-refl, ⊕-mono, ⊖-mono, ⊗-mono, ⊘-mono, 0-least, over-mono, above-from, power-cancel}
 use Rattle.exact.proofs.Root.{root-below-power, root-above-power}
 
 pub record Sound (x : Bracket) : Type 0 where
@@ -63,14 +63,6 @@ root-sound k n {x} h =
     record {
       defined = h .defined;
       ordered = power-cancel k (root-below-power k n (x .low) ⟫ h .ordered ⟫ root-above-power k n (x .high));
-    }
-
-pub larger-sound : {x y : Bracket} → Sound x → Sound y → Sound (larger x y)
-unfolding larger
-larger-sound h k =
-    record {
-      defined = and-true (h .defined) (k .defined);
-      ordered = larger-least (h .ordered ⟫ larger-left _ _) (k .ordered ⟫ larger-right _ _);
     }
 
 pub high-only-sound : {x : Bracket} → Sound x → Sound (high-only x)

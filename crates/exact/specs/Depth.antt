@@ -5,7 +5,6 @@ use lib.Dec.{ltb}
 use lib.Pow.{pow-pos}
 use Rattle.pairs.specs.Arithmetic.{Arithmetic}
 use Rattle.pairs.specs.Search.{greatest, least}
-use Rattle.exact.specs.Fraction as fraction
 use Rattle.exact.specs.Fraction.{Fraction, at-most, above-0, whole, power, _⊕_, _⊖_, _⊗_, _⊘_}
 
 -- A low end, a high end, and whether every divisor on the way to them was above 0.
@@ -62,15 +61,6 @@ root-above k n x = multiple n (least (λ s. at-most x (power (multiple n s) k)) 
 unfoldable pub root : ℕ → ℕ → Bracket → Bracket
 root k n x = record { low = root-below k n (x .low); high = root-above k n (x .high); defined = x .defined }
 
--- "worst: the larger low end and the larger high end of the two."
-unfoldable pub larger : Bracket → Bracket → Bracket
-larger x y =
-    record {
-      low = fraction.larger (x .low) (y .low);
-      high = fraction.larger (x .high) (y .high);
-      defined = x .defined && y .defined;
-    }
-
 unfoldable pub high-only : Bracket → Bracket
 high-only x = record { low = whole 0; high = x .high; defined = x .defined }
 
@@ -92,7 +82,6 @@ exact n =
       over = over;
       root = root 2 n;
       fifth-root = root 5 n;
-      larger = larger;
       high-only = high-only;
       pairs-of-terms = n;
       at-most-one = untested;

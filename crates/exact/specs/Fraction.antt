@@ -1,6 +1,6 @@
 -- Document 01, "Depth n": "each fraction a whole number over a whole number above 0, compared by their cross products".
 use Prim.Native.Nat.{ℕ, zero, suc, pred, _+_, _*_, _-_, _≤_, _<_}
-use mathlib.Core.Bool.{Bool, true, false}
+use mathlib.Core.Bool.{Bool}
 use lib.Dec.{leb, ltb}
 use native.Mathlib.Nat.{mul-pos, zero-lt-suc}
 
@@ -55,6 +55,3 @@ x ⊘ y = record { num = x .num * y .den; den = suc (pred (x .den * y .num)); de
 unfoldable pub power : Fraction → ℕ → Fraction
 power x zero = whole 1
 power x (suc k) = power x k ⊗ x
-
-unfoldable pub larger : Fraction → Fraction → Fraction
-larger x y = elim (at-most x y) [ true ↦ y | false ↦ x ]

@@ -149,7 +149,7 @@ two-agree {a} {b} op ord h k =
     (admit-two-same (a .pair) (b .pair) _ (fitting-same (op (a .pair) (b .pair)))) (λ z. ord)
 
 pub agreement : Kept answers rounded Agrees
-unfolding A.constant A.sum A.sum-of A.difference A.difference-of A.product A.product-of A.times A.times-of A.root A.root-of A.fifth-root A.fifth-root-of A.larger A.larger-of A.high-only A.high-only-of A.at-most-one A.at-most-one-of A.at-most-a-third A.at-most-a-third-of A.below-256 A.below-256-of
+unfolding A.constant A.sum A.sum-of A.difference A.difference-of A.product A.product-of A.times A.times-of A.root A.root-of A.fifth-root A.fifth-root-of A.high-only A.high-only-of A.at-most-one A.at-most-one-of A.at-most-a-third A.at-most-a-third-of A.below-256 A.below-256-of
 agreement =
     record {
       same-terms = refl;
@@ -162,7 +162,6 @@ agreement =
       over = over-agrees;
       root = λ h. one-agrees R.root O.root-ordered h;
       fifth-root = λ h. one-agrees R.fifth-root O.fifth-root-ordered h;
-      larger = λ h k. two-parts _ R.larger h k (fitting-same _) (λ z. O.larger-ordered);
       high-only = λ h. one-part _ R.high-only h (fitting-same _) (λ z o. O.high-only-ordered _);
       at-most-one = λ {a} {b} h. let-through (ltb U (a .pair .high)) h;
       at-most-a-third = λ {a} {b} h. let-through (ltb (R.up (U * U) (3 * U)) (a .pair .high)) h;

@@ -16,7 +16,6 @@ pub record Kept (A B : Arithmetic) (R : A .Carrier → B .Carrier → Type 0) : 
   pub over : {a : A .Carrier} {b : B .Carrier} → R a b → (n : ℕ) → R (A .over a n) (B .over b n)
   pub root : {a : A .Carrier} {b : B .Carrier} → R a b → R (A .root a) (B .root b)
   pub fifth-root : {a : A .Carrier} {b : B .Carrier} → R a b → R (A .fifth-root a) (B .fifth-root b)
-  pub larger : {a c : A .Carrier} {b d : B .Carrier} → R a b → R c d → R (A .larger a c) (B .larger b d)
   pub high-only : {a : A .Carrier} {b : B .Carrier} → R a b → R (A .high-only a) (B .high-only b)
   pub at-most-one : {a : A .Carrier} {b : B .Carrier} → R a b → R (A .at-most-one a) (B .at-most-one b)
   pub at-most-a-third : {a : A .Carrier} {b : B .Carrier} → R a b → R (A .at-most-a-third a) (B .at-most-a-third b)

@@ -6,7 +6,7 @@ use native.Mathlib.Decide.{decLe}
 use native.Mathlib.Omega.{arith}
 use lib.Dec.{lit<}
 use Rattle.pairs.specs.declared.answer.Pair.{Pair}
-use Rattle.pairs.specs.Rounded.{U, constant, sum, difference, product, quotient, times, over, root, fifth-root, larger, high-only, root-down, root-up}
+use Rattle.pairs.specs.Rounded.{U, constant, sum, difference, product, quotient, times, over, root, fifth-root, high-only, root-down, root-up}
 use Rattle.pairs.proofs.Rounding.{down-grows, down-below-up}
 use Rattle.pairs.proofs.Search.{root-down-passes, root-up-passes}
 use Rattle.pairs.proofs.FifthPower.{fifth-root-ends}
@@ -63,10 +63,6 @@ root-ordered {p} h =
 pub fifth-root-ordered : {p : Pair} → Ordered p → Ordered (fifth-root p)
 unfolding fifth-root
 fifth-root-ordered {p} h = record { ends = fifth-root-ends (p .low) (p .high) (h .ends) }
-
-pub larger-ordered : {p q : Pair} → Ordered p → Ordered q → Ordered (larger p q)
-unfolding larger
-larger-ordered h k = record { ends = omega arith }
 
 pub high-only-ordered : (p : Pair) → Ordered (high-only p)
 unfolding high-only

@@ -43,10 +43,7 @@ root-of p = admit p (fitting (rounded.root p))
 unfoldable pub fifth-root-of : Pair → Figures
 fifth-root-of p = admit p (fitting (rounded.fifth-root p))
 
--- ---- the parts of a series and of the worst face
-unfoldable pub larger-of : Pair → Pair → Figures
-larger-of p q = fitting (rounded.larger p q)
-
+-- ---- the parts of a series
 unfoldable pub high-only-of : Pair → Figures
 high-only-of p = fitting (rounded.high-only p)
 
@@ -94,9 +91,6 @@ root a = on-one root-of a
 unfoldable pub fifth-root : Figures → Figures
 fifth-root a = on-one fifth-root-of a
 
-unfoldable pub larger : Figures → Figures → Figures
-larger a b = on-two larger-of a b
-
 unfoldable pub high-only : Figures → Figures
 high-only a = on-one high-only-of a
 
@@ -123,7 +117,6 @@ answers =
       over = over;
       root = root;
       fifth-root = fifth-root;
-      larger = larger;
       high-only = high-only;
       pairs-of-terms = 8;
       at-most-one = at-most-one;

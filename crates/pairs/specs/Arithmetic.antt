@@ -14,8 +14,6 @@ pub record Arithmetic : Type 1 where
   pub over : Carrier → ℕ → Carrier
   pub root : Carrier → Carrier
   pub fifth-root : Carrier → Carrier
-  -- The larger low end and the larger high end of the two.
-  pub larger : Carrier → Carrier → Carrier
   -- [0, b] of [a, b]: what counts in the high end alone.
   pub high-only : Carrier → Carrier
   -- Half the number of terms that both ends of a series have: 8, and n at depth n.

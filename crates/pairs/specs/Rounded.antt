@@ -1,5 +1,5 @@
 -- Document 01, "Pairs of trillionths": the operations on ends of any size.
-use Prim.Native.Nat.{ℕ, _+_, _*_, _-_, _/_, max}
+use Prim.Native.Nat.{ℕ, _+_, _*_, _-_, _/_}
 use lib.Dec.{leb}
 use Rattle.pairs.specs.declared.answer.Pair.{Pair}
 use Rattle.pairs.specs.Search.{greatest, least}
@@ -75,10 +75,6 @@ fifth-root-up b = least (λ s. leb b (fifth-power-down s)) (b + U)
 unfoldable pub fifth-root : Pair → Pair
 fifth-root p = ends (fifth-root-down (p .low)) (fifth-root-up (p .high))
 
--- "worst: the larger low end and the larger high end of the two."
-unfoldable pub larger : Pair → Pair → Pair
-larger p q = ends (max (p .low) (q .low)) (max (p .high) (q .high))
-
 unfoldable pub high-only : Pair → Pair
 high-only p = ends 0 (p .high)
 
@@ -99,7 +95,6 @@ rounded =
       over = over;
       root = root;
       fifth-root = fifth-root;
-      larger = larger;
       high-only = high-only;
       pairs-of-terms = 8;
       at-most-one = untested;

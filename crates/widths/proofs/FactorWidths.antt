@@ -7,11 +7,11 @@ use native.Mathlib.Omega.{arith}
 use lib.Dec.{lit≤}
 use Rattle.pairs.specs.Figures.{Figures}
 use Rattle.pairs.specs.Answers.{answers}
-use Rattle.chain.specs.Chain.{by-face, factor, vertical-above, horizontal-above, vertical-below, horizontal-below, factor-at}
+use Rattle.chain.specs.Chain.{factor, vertical-above, horizontal-above, vertical-below, horizontal-below, factor-at}
 use Rattle.chain.proofs.Bounds as B
-use Rattle.chain.proofs.Bounds.{Bound, bound, bounds}
+use Rattle.chain.proofs.Bounds.{Bound, bound}
 use Rattle.chain.proofs.Within.{Held, Within, within}
-use Rattle.chain.proofs.Steps.{by-face-kept}
+use Rattle.chain.proofs.FaceBounds.{face-bound, by-face-within}
 use Rattle.chain.proofs.Boxes.{known}
 use Rattle.chain.proofs.Configuration.{relative-height-bound, elevation-bound}
 use Rattle.chain.proofs.Flame.{flame-width}
@@ -27,14 +27,14 @@ pub record Placement (l h e : Figures) : Type 0 where
 
 -- ---- bounds of the factor of a face
 unfoldable pub level-bound : ℕ → Bound
-level-bound face = by-face bounds face vertical-bound-at-base horizontal-bound-at-base
+level-bound face = face-bound face vertical-bound-at-base horizontal-bound-at-base
 
 unfoldable pub above-bound : ℕ → Bound
-above-bound face = by-face bounds face (B.difference (B.sum vertical-bound vertical-bound) vertical-bound) horizontal-bound
+above-bound face = face-bound face (B.difference (B.sum vertical-bound vertical-bound) vertical-bound) horizontal-bound
 
 unfoldable pub below-bound : ℕ → Bound
 below-bound face =
-    by-face bounds face (B.difference vertical-bound vertical-bound) (B.difference horizontal-bound horizontal-bound)
+    face-bound face (B.difference vertical-bound vertical-bound) (B.difference horizontal-bound horizontal-bound)
 
 module _ {l h e : Figures} (s : Placement l h e) where
   narrow : Held l (narrow-height (e .pair .low))
@@ -69,17 +69,17 @@ module _ {l h e : Figures} (s : Placement l h e) where
   -- ---- the factor of a face
   pub level-within : (face : ℕ) → Within (factor answers face l e) (level-bound face)
   unfolding factor level-bound
-  level-within face = by-face-kept within face (known (at-l .upright)) (known (at-l .level))
+  level-within face = by-face-within face (known (at-l .upright)) (known (at-l .level))
 
   pub above-within : (face : ℕ) → Within (factor-at answers true face l h e) (above-bound face)
   unfolding factor-at vertical-above horizontal-above above-bound
   above-within face =
-      by-face-kept within face
+      by-face-within face
       (within .difference (within .sum (known (at-h .upright)) (known (at-l-less-h .upright))) (known (at-h-less-l .upright)))
       (known (at-l-less-h .level))
 
   pub below-within : (face : ℕ) → Within (factor-at answers false face l h e) (below-bound face)
   unfolding factor-at vertical-below horizontal-below below-bound
   below-within face =
-      by-face-kept within face (within .difference (known (at-l-and-h .upright)) (known (at-h .upright)))
+      by-face-within face (within .difference (known (at-l-and-h .upright)) (known (at-h .upright)))
       (within .difference (known (at-l-and-h .level)) (known (at-h .level)))

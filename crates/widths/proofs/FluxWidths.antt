@@ -10,18 +10,20 @@ use lib.Dec.{T, eqb}
 use lib.IntN.{pos}
 use lib.Signed.{nonNeg}
 use Rattle.pairs.specs.declared.answer.Pair.{Pair}
-use Rattle.pairs.specs.Rounded.{rounded, up, down}
+use Rattle.pairs.specs.Rounded.{rounded}
 use Rattle.pairs.specs.Figures.{Figures}
 use Rattle.pairs.specs.Answers.{answers}
 use Rattle.pairs.proofs.Agreement.{agreement}
 use Rattle.chain.specs.declared.enquiry.Enquiry.{Enquiry}
-use Rattle.chain.specs.Chain.{by-face, factor, factor-at, flame-height-of, emissive-power-of, relative-height-of, relative-elevation-of, relative-distance-of, configuration-factor-of, clear-flux, radiant-flux}
+use Rattle.chain.specs.Chain.{factor, factor-at, flame-height-of, emissive-power-of, relative-height-of, relative-elevation-of, relative-distance-of, configuration-factor-of, clear-flux, radiant-flux}
 use Rattle.chain.proofs.Bounds as B
-use Rattle.chain.proofs.Bounds.{Bound, bound, bounds}
+use Rattle.chain.proofs.Bounds.{Bound}
 use Rattle.chain.proofs.Inside.{Inside}
 use Rattle.chain.proofs.Within.{Held, within}
 use Rattle.chain.proofs.Steps.{factor-kept, emissive-power-of-kept, relative-height-of-kept, relative-distance-of-kept, clear-flux-kept}
 use Rattle.chain.proofs.Boxes.{known, every, each, either}
+use Rattle.chain.proofs.Opened.{opened}
+use Rattle.chain.proofs.FaceBounds.{face-bound}
 use Rattle.chain.proofs.Flame.{emissive-bound-1, emissive-bound-2, emissive-bound-3, emissive-bound}
 use Rattle.chain.proofs.Limits.{Tested, between, transmissivity}
 use Rattle.chain.proofs.Accepted as chain
@@ -41,12 +43,12 @@ width-of method face = max ((clear-bound method (above-bound face)) .width) ((cl
 unfoldable pub level-width-of : ℕ → ℕ → ℕ
 level-width-of method face = (clear-bound method (level-bound face)) .width
 
-pub widths : (width-of 1 1 ≡ 1_669_700_001) × (width-of 1 2 ≡ 1_117_500_001) × (width-of 1 3 ≡ 1_669_700_001) × (width-of 2 1 ≡ 5_702_500_001) × (width-of 2 2 ≡ 3_634_700_001) × (width-of 2 3 ≡ 5_702_500_001) × (width-of 3 1 ≡ 3_431_100_001) × (width-of 3 2 ≡ 2_293_920_001) × (width-of 3 3 ≡ 3_431_100_001)
-unfolding width-of clear-bound emissive-bound above-bound below-bound by-face B.product B.sum B.difference B.larger bound up
+pub widths : (width-of 1 1 ≡ 1_669_700_001) × (width-of 1 2 ≡ 1_117_500_001) × (width-of 1 3 ≡ 2_342_508_234) × (width-of 2 1 ≡ 5_702_500_001) × (width-of 2 2 ≡ 3_634_700_001) × (width-of 2 3 ≡ 7_885_618_801) × (width-of 3 1 ≡ 3_431_100_001) × (width-of 3 2 ≡ 2_293_920_001) × (width-of 3 3 ≡ 4_811_709_935)
+unfolding opened width-of clear-bound emissive-bound above-bound below-bound face-bound
 widths = (refl, refl, refl, refl, refl, refl, refl, refl, refl)
 
-pub level-widths : (level-width-of 1 1 ≡ 190_100_001) × (level-width-of 1 2 ≡ 165_600_001) × (level-width-of 1 3 ≡ 190_100_001) × (level-width-of 2 1 ≡ 668_500_001) × (level-width-of 2 2 ≡ 545_200_001) × (level-width-of 2 3 ≡ 668_500_001) × (level-width-of 3 1 ≡ 390_900_001) × (level-width-of 3 2 ≡ 340_020_001) × (level-width-of 3 3 ≡ 390_900_001)
-unfolding level-width-of clear-bound emissive-bound level-bound by-face B.product B.larger bound up
+pub level-widths : (level-width-of 1 1 ≡ 190_100_001) × (level-width-of 1 2 ≡ 165_600_001) × (level-width-of 1 3 ≡ 469_422_433) × (level-width-of 2 1 ≡ 668_500_001) × (level-width-of 2 2 ≡ 545_200_001) × (level-width-of 2 3 ≡ 1_575_649_057) × (level-width-of 3 1 ≡ 390_900_001) × (level-width-of 3 2 ≡ 340_020_001) × (level-width-of 3 3 ≡ 964_253_818)
+unfolding opened level-width-of clear-bound emissive-bound level-bound face-bound
 level-widths = (refl, refl, refl, refl, refl, refl, refl, refl, refl)
 
 -- ---- whatever the method, the face and the height, E·F is not refused
@@ -55,7 +57,7 @@ abbrev face-tests : Bound → List Bool → List Bool
 face-tests F rest = (B.product emissive-bound-1 F) .safe ∷ (B.product emissive-bound-2 F) .safe ∷ (B.product emissive-bound-3 F) .safe ∷ rest
 
 abbrev flux-tests : Bound → Bound → List Bool
-flux-tests upright level = face-tests upright (face-tests level (face-tests (B.larger upright level) []))
+flux-tests upright level = face-tests upright (face-tests level (face-tests (B.exposed upright level) []))
 
 by-method : (method : ℕ) (F : Bound) → T ((B.product emissive-bound-1 F) .safe) → T ((B.product emissive-bound-2 F) .safe) → T ((B.product emissive-bound-3 F) .safe) → T ((clear-bound method F) .safe)
 unfolding clear-bound emissive-bound
@@ -63,26 +65,26 @@ by-method method F s t w =
     let P : Bound → Type 0 = λ b. T ((B.product b F) .safe) in
     either P (eqb method 1) s (either P (eqb method 2) t w)
 
-by-method-and-face : (upright level : Bound) → T (every (flux-tests upright level)) → (method face : ℕ) → T ((clear-bound method (by-face bounds face upright level)) .safe)
-unfolding by-face
+by-method-and-face : (upright level : Bound) → T (every (flux-tests upright level)) → (method face : ℕ) → T ((clear-bound method (face-bound face upright level)) .safe)
+unfolding face-bound
 by-method-and-face upright level t method face =
     let c = each (flux-tests upright level) t in
     let c₃ = c .1 .1 .1 in
     let c₆ = c₃ .1 .1 .1 in
     either (λ b. T ((clear-bound method b) .safe)) (eqb face 1) (by-method method upright (c .0) (c .1 .0) (c .1 .1 .0))
     (either (λ b. T ((clear-bound method b) .safe)) (eqb face 2) (by-method method level (c₃ .0) (c₃ .1 .0) (c₃ .1 .1 .0))
-    (by-method method (B.larger upright level) (c₆ .0) (c₆ .1 .0) (c₆ .1 .1 .0)))
+    (by-method method (B.exposed upright level) (c₆ .0) (c₆ .1 .0) (c₆ .1 .1 .0)))
 
 above-safe : (method face : ℕ) → T ((clear-bound method (above-bound face)) .safe)
-unfolding above-bound B.product B.sum B.difference B.larger bound up down
+unfolding opened above-bound
 above-safe = by-method-and-face _ _ tt
 
 below-safe : (method face : ℕ) → T ((clear-bound method (below-bound face)) .safe)
-unfolding below-bound B.product B.difference B.larger bound up down
+unfolding opened below-bound
 below-safe = by-method-and-face _ _ tt
 
 level-safe : (method face : ℕ) → T ((clear-bound method (level-bound face)) .safe)
-unfolding level-bound B.product B.larger bound up down
+unfolding opened level-bound
 level-safe = by-method-and-face _ _ tt
 
 -- ---- one enquiry

@@ -4,15 +4,14 @@ use Prim.Native.Nat.{ℕ, zero, suc, _+_, _*_, _≤_}
 use native.Mathlib.Omega.{arith}
 use lib.Dec.{lit≤, eqb}
 use Rattle.pairs.specs.Rounded.{U, up, down}
-use Rattle.chain.specs.Chain.{by-face}
 use Rattle.chain.specs.Flux.{low-of, high-of}
-use Rattle.chain.proofs.Bounds as B
-use Rattle.chain.proofs.Bounds.{bound}
 use Rattle.chain.proofs.Boxes.{either}
+use Rattle.chain.proofs.Opened.{opened}
+use Rattle.chain.proofs.FaceBounds.{face-bound}
 use Rattle.chain.proofs.Flame.{emissive-bound}
 use Rattle.chain.proofs.Limits.{between, accepted-tested}
 use Rattle.chain.proofs.Accepted.{accepted, shown}
-use Rattle.widths.specs.Narrow.{at-any-height, at-height-0, Widths}
+use Rattle.widths.specs.Narrow.{by-number, at-any-height, at-height-0, Widths}
 use Rattle.widths.proofs.FactorWidths.{level-bound, above-bound, below-bound}
 use Rattle.widths.proofs.FluxWidths.{clear-bound, width-of, level-width-of, flux-near, level-near}
 
@@ -44,14 +43,14 @@ each-case P a b c d e f g h i method face l u =
     of-three (λ m. (face : ℕ) → 1 ≤ face → face ≤ 3 → P m face) (of-three (P 1) a b c) (of-three (P 2) d e f) (of-three (P 3) g h i) method l u face
 
 any-height : (method face : ℕ) → 1 ≤ method → method ≤ 3 → 1 ≤ face → face ≤ 3 → printed (width-of method face + 1) ≤ at-any-height method face
-unfolding at-any-height printed width-of clear-bound emissive-bound above-bound below-bound by-face B.product B.sum B.difference B.larger bound up
+unfolding opened at-any-height by-number printed width-of clear-bound emissive-bound above-bound below-bound face-bound
 any-height =
     each-case (λ method face. printed (width-of method face + 1) ≤ at-any-height method face) (lit≤ tt) (lit≤ tt) (lit≤ tt) (lit≤ tt) (lit≤ tt) (lit≤ tt) (lit≤ tt) (lit≤ tt) (lit≤ tt)
 
-level : (method face : ℕ) → 1 ≤ method → method ≤ 3 → 1 ≤ face → face ≤ 3 → printed (level-width-of method face + 1) ≤ at-height-0
-unfolding printed level-width-of clear-bound emissive-bound level-bound by-face B.product B.larger bound up
+level : (method face : ℕ) → 1 ≤ method → method ≤ 3 → 1 ≤ face → face ≤ 3 → printed (level-width-of method face + 1) ≤ at-height-0 method face
+unfolding opened at-height-0 by-number printed level-width-of clear-bound emissive-bound level-bound face-bound
 level =
-    each-case (λ method face. printed (level-width-of method face + 1) ≤ at-height-0) (lit≤ tt) (lit≤ tt) (lit≤ tt) (lit≤ tt) (lit≤ tt) (lit≤ tt) (lit≤ tt) (lit≤ tt) (lit≤ tt)
+    each-case (λ method face. printed (level-width-of method face + 1) ≤ at-height-0 method face) (lit≤ tt) (lit≤ tt) (lit≤ tt) (lit≤ tt) (lit≤ tt) (lit≤ tt) (lit≤ tt) (lit≤ tt) (lit≤ tt)
 
 pub widths : Widths
 unfolding low-of high-of
@@ -69,9 +68,12 @@ widths E e =
     }
 
 -- Demand 3's 20 W/m² cover them all.
+of-three-within-20 : (n : ℕ) {a b c : ℕ} → a ≤ 20 → b ≤ 20 → c ≤ 20 → by-number n a b c ≤ 20
+unfolding by-number
+of-three-within-20 n h k l = either (λ m. m ≤ 20) (eqb n 1) h (either (λ m. m ≤ 20) (eqb n 2) k l)
+
 pub within-20 : (method face : ℕ) → at-any-height method face ≤ 20
 unfolding at-any-height
 within-20 method face =
-    let P : ℕ → Type 0 = λ n. n ≤ 20 in
-    either P (eqb method 1) (lit≤ tt)
-    (either P (eqb method 2) (either P (eqb face 2) (lit≤ tt) (lit≤ tt)) (either P (eqb face 2) (lit≤ tt) (lit≤ tt)))
+    of-three-within-20 method (of-three-within-20 face (lit≤ tt) (lit≤ tt) (lit≤ tt))
+    (of-three-within-20 face (lit≤ tt) (lit≤ tt) (lit≤ tt)) (of-three-within-20 face (lit≤ tt) (lit≤ tt) (lit≤ tt))

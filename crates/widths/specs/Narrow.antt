@@ -7,27 +7,22 @@ use lib.IntN.{pos}
 use Rattle.chain.specs.declared.enquiry.Enquiry.{Enquiry}
 use Rattle.chain.specs.Flux.{flux-of}
 
--- At any height, by method and face: method 1 has 3; for the horizontal face method 2 has 5 and method 3 has 4; for the others
--- method 2 has 7 and method 3 has 5.
-unfoldable pub at-any-height : ℕ → ℕ → ℕ
-at-any-height method face =
-    elim (eqb method 1) [
-      | true ↦ 3
-      | false ↦
-          elim (eqb method 2) [
-            | true ↦ elim (eqb face 2) [ true ↦ 5 | false ↦ 7 ]
-            | false ↦ elim (eqb face 2) [ true ↦ 4 | false ↦ 5 ]
-          ]
-    ]
+-- The first, the second or the third figure, by a method or a face.
+unfoldable pub by-number : ℕ → ℕ → ℕ → ℕ → ℕ
+by-number n first second third = elim (eqb n 1) [ true ↦ first | false ↦ elim (eqb n 2) [ true ↦ second | false ↦ third ] ]
 
--- Level with the flame's base, by every method and for every face.
-abbrev pub at-height-0 : ℕ
-at-height-0 = 2
+-- At any height, by method and face: vertical, horizontal, tilted.
+unfoldable pub at-any-height : ℕ → ℕ → ℕ
+at-any-height method face = by-number method (by-number face 3 3 4) (by-number face 7 5 9) (by-number face 5 4 6)
+
+-- Level with the flame's base.
+unfoldable pub at-height-0 : ℕ → ℕ → ℕ
+at-height-0 method face = by-number method 2 (by-number face 2 2 3) 2
 
 pub record Narrow (E : Enquiry) : Type 0 where
   pub ordered : (flux-of E) .low ≤ (flux-of E) .high
   pub near : (flux-of E) .high ≤ (flux-of E) .low + at-any-height (E .method) (E .face)
-  pub near-level : E .height ≡ pos 0 → (flux-of E) .high ≤ (flux-of E) .low + at-height-0
+  pub near-level : E .height ≡ pos 0 → (flux-of E) .high ≤ (flux-of E) .low + at-height-0 (E .method) (E .face)
 
 -- Of every accepted enquiry.
 abbrev pub Widths : Type 0

@@ -8,7 +8,7 @@ use Rattle.pairs.specs.declared.answer.Answer.{Answer}
 use Rattle.pairs.specs.Figures.{Figures}
 use Rattle.pairs.specs.Answers as A
 use Rattle.chain.specs.declared.factor.Seen.{Seen}
-use Rattle.chain.specs.Chain.{by-face}
+use Rattle.chain.specs.Chain.{most-exposed, by-face}
 use Rattle.chain.specs.Private.{SeenOf}
 
 pub seen-by : {d e : Answer} {s : Seen} → d ≡ e → SeenOf e s → SeenOf d s
@@ -16,7 +16,7 @@ seen-by {s = s} q h = subst (λ (e : Answer). SeenOf e s) (sym q) h
 
 module _ (face : ℕ) (upright level : Figures) where
   abbrev asked : Bool → Bool → Figures
-  asked a b = elim a [ true ↦ upright | false ↦ elim b [ true ↦ level | false ↦ A.larger upright level ] ]
+  asked a b = elim a [ true ↦ upright | false ↦ elim b [ true ↦ level | false ↦ most-exposed A.answers upright level ] ]
 
   pub upright-asked : face ≡ 1 → upright ≡ by-face A.answers face upright level
   unfolding by-face
@@ -26,6 +26,6 @@ module _ (face : ℕ) (upright level : Figures) where
   unfolding by-face
   level-asked n e = ap₂ asked (sym (ne-eqb face 1 n)) (sym (eq-eqb face 2 e))
 
-  pub worst-asked : (face ≡ 1 → ⊥) → (face ≡ 2 → ⊥) → A.larger upright level ≡ by-face A.answers face upright level
+  pub tilted-asked : (face ≡ 1 → ⊥) → (face ≡ 2 → ⊥) → most-exposed A.answers upright level ≡ by-face A.answers face upright level
   unfolding by-face
-  worst-asked n m = ap₂ asked (sym (ne-eqb face 1 n)) (sym (ne-eqb face 2 m))
+  tilted-asked n m = ap₂ asked (sym (ne-eqb face 1 n)) (sym (ne-eqb face 2 m))

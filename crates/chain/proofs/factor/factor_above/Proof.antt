@@ -4,7 +4,7 @@ use mathlib.Core.Path.{refl, ap, ap₂, _∙_}
 use Rattle.pairs.specs.Figures.{figures}
 use Rattle.pairs.specs.Answers as A
 use Rattle.chain.specs.Chain as chain
-use Rattle.chain.proofs.factor.Faces.{seen-by, upright-asked, level-asked, worst-asked}
+use Rattle.chain.proofs.factor.Faces.{seen-by, upright-asked, level-asked, tilted-asked}
 use borrow.Author.Needs.{needs}
 use Rattle.chain.proofs.factor.factor_above.Statement.{statement}
 use Rattle.chain.proofs.factor.factor_above.Tie as tie
@@ -58,8 +58,8 @@ vertical-above-requires-2 c κs =
     let start = s .before .before .before in
     ((start .pre .0, up .1), (up .0, (start .pre .1, c .vertical .ensures ∙ ap₂ (chain.vertical A.answers) between (ap figures (up .0)))))
 
-larger-of-requires : tie.Need-larger-of-requires
-larger-of-requires c κs = search needs
+most-exposed-requires : tie.Need-most-exposed-requires
+most-exposed-requires c κs = search needs
 
 returns-3 : tie.Need-returns-3
 unfolding chain.factor-at chain.horizontal-above
@@ -68,7 +68,7 @@ returns-3 c =
     let s = k .before .before .before in
     let between = ap figures (s .seen-at .ensures .0) ∙ s .before .before .difference-of .ensures in
     let level = k .before .horizontal .ensures ∙ ap₂ (chain.horizontal A.answers) between refl in
-    c .larger-of .ensures ∙ ap₂ A.larger (c .before .vertical-above2 .ensures) level ∙ worst-asked _ _ _ (s .before .if1 .left) (k .if2 .left)
+    c .most-exposed .ensures ∙ ap₂ (chain.most-exposed A.answers) (c .before .vertical-above2 .ensures) level ∙ tilted-asked _ _ _ (s .before .if1 .left) (k .if2 .left)
 
 pub factor-above-spec : {M : Type 1} → statement M
 factor-above-spec =
@@ -86,5 +86,5 @@ factor-above-spec =
     upright-of-requires-2
     vertical-requires
     vertical-above-requires-2
-    larger-of-requires
+    most-exposed-requires
     returns-3)

@@ -4,7 +4,7 @@ use mathlib.Core.Path.{refl, ap, ap₂, _∙_}
 use Rattle.pairs.specs.Figures.{figures}
 use Rattle.pairs.specs.Answers as A
 use Rattle.chain.specs.Chain as chain
-use Rattle.chain.proofs.factor.Faces.{seen-by, upright-asked, level-asked, worst-asked}
+use Rattle.chain.proofs.factor.Faces.{seen-by, upright-asked, level-asked, tilted-asked}
 use borrow.Author.Needs.{needs}
 use Rattle.chain.proofs.factor.factor_below.Statement.{statement}
 use Rattle.chain.proofs.factor.factor_below.Tie as tie
@@ -82,8 +82,8 @@ vertical-requires-4 c κs =
 difference-of-requires-3 : tie.Need-difference-of-requires-3
 difference-of-requires-3 c κs = search needs
 
-larger-of-requires : tie.Need-larger-of-requires
-larger-of-requires c κs = search needs
+most-exposed-requires : tie.Need-most-exposed-requires
+most-exposed-requires c κs = search needs
 
 returns-3 : tie.Need-returns-3
 unfolding chain.factor-at chain.vertical-below chain.horizontal-below
@@ -101,7 +101,7 @@ returns-3 c =
     let level-top = h .before .horizontal .ensures ∙ ap₂ (chain.horizontal A.answers) high refl in
     let level-base = h .horizontal2 .ensures ∙ ap₂ (chain.horizontal A.answers) low refl in
     let level = k .before .difference-of2 .ensures ∙ ap₂ A.difference level-top level-base in
-    c .larger-of .ensures ∙ ap₂ A.larger upright level ∙ worst-asked _ _ _ (h .before .before .before .if1 .left) (k .if2 .left)
+    c .most-exposed .ensures ∙ ap₂ (chain.most-exposed A.answers) upright level ∙ tilted-asked _ _ _ (h .before .before .before .if1 .left) (k .if2 .left)
 
 pub factor-below-spec : {M : Type 1} → statement M
 factor-below-spec =
@@ -124,5 +124,5 @@ factor-below-spec =
     vertical-requires-3
     vertical-requires-4
     difference-of-requires-3
-    larger-of-requires
+    most-exposed-requires
     returns-3)
