@@ -110,7 +110,7 @@ widest method =
     either P (eqb method 1) {x = emissive-bound-1} tt (either P (eqb method 2) {x = emissive-bound-2} {y = emissive-bound-3} tt tt)
 
 -- What holds of an answer holds of the rounded pair that it gives.
-agreed-inside : {f : Figures} {p : Pair} {b : Bound} → Agrees f p → Held f b → Inside p b
+pub agreed-inside : {f : Figures} {p : Pair} {b : Bound} → Agrees f p → Held f b → Inside p b
 agreed-inside {b = b} a h = subst (λ p. Inside p b) (a .same (h .given)) (h .inside)
 
 power-held : (E : Enquiry) → Bounded E → Held (emissive-power-of answers E) emissive-bound-2

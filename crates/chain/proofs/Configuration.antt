@@ -87,6 +87,7 @@ upright-bound = record { least = 0; most = 34 * U; width = 6 * U; safe = true }
 abbrev level-bound : Bound
 level-bound = record { least = 0; most = U; width = 4 * U; safe = true }
 
+-- The tilted face is little above the larger of these two.
 abbrev pub factor-bound : Bound
 factor-bound = record { least = 0; most = 34_020_000_000_000; width = 11 * U; safe = true }
 

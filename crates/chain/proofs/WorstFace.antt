@@ -88,28 +88,27 @@ facing-tested E face f t =
       flame = t .flame;
     }
 
--- The face decides no refusal but 15.
-pub any-face-accepted : (E : Enquiry) (face : ℕ) → outside 1 3 face ≡ false → (flux-of E) .state ≡ 0 → (flux-of (facing face E)) .state ≡ 0
-any-face-accepted E face f e =
-    ap (λ (s : Shown). s .state) (shown (facing face E) (facing-tested E face f (accepted-tested E e)))
+-- A face of an enquiry beside its tilted one.
+pub record Exposed (E : Enquiry) (face : ℕ) : Type 0 where
+  pub accepted : (flux-of (facing face E)) .state ≡ 0
+  pub factor : Covered (configuration-factor-of rounded (facing face E)) (configuration-factor-of rounded (facing 3 E))
+  pub high : (flux-of (facing face E)) .high ≤ (flux-of (facing 3 E)) .high
+  pub low : (flux-of (facing face E)) .low ≤ (flux-of (facing 3 E)) .low + 1
 
--- The face that is asked beside the tilted one.
-pub record Exposed (E : Enquiry) : Type 0 where
-  pub factor : Covered (configuration-factor-of rounded E) (configuration-factor-of rounded (facing 3 E))
-  pub high : (flux-of E) .high ≤ (flux-of (facing 3 E)) .high
-  pub low : (flux-of E) .low ≤ (flux-of (facing 3 E)) .low + 1
-
-pub worst-face : (E : Enquiry) → (flux-of E) .state ≡ 0 → Exposed E
+-- An accepted enquiry is accepted with each face.
+pub worst-face : (E : Enquiry) → (flux-of E) .state ≡ 0 → (face : ℕ) → outside 1 3 face ≡ false → Exposed E face
 unfolding low-of high-of radiant-flux clear-flux configuration-factor-of emissive-power-of relative-height-of relative-elevation-of relative-distance-of flame-height-of flame-of flame-1-of flame-2-of flame-3-of diameter-of unabsorbed-of heat-release-of burning-rate-of froude-number-of
-worst-face E e =
+worst-face E e face f =
     let t = accepted-tested E e in
-    let P = emissive-power-of rounded E in
-    let i = power-inside E t in
-    let bright = le-trans (i .ordered) (i .high) in
+    let asked = shown (facing face E) (facing-tested E face f t) in
+    let tilted = shown (facing 3 E) (facing-tested E 3 refl t) in
+    let power = power-inside E t in
+    let bright = le-trans (power .ordered) (power .high) in
     let most = transmissivity E (t .limited) in
-    let c = factor-covered _ (E .face) _ _ _ in
+    let c = factor-covered _ face _ _ _ in
     record {
+      accepted = ap (λ (s : Shown). s .state) asked;
       factor = c;
-      high = rw (shown E t, shown (facing 3 E) (facing-tested E 3 refl t)) (flux-high P bright most c);
-      low = rw (shown E t, shown (facing 3 E) (facing-tested E 3 refl t)) (flux-low P bright most c);
+      high = rw (asked, tilted) (flux-high (emissive-power-of rounded E) bright most c);
+      low = rw (asked, tilted) (flux-low (emissive-power-of rounded E) bright most c);
     }

@@ -1,24 +1,21 @@
 -- How far apart the ends of q are at most, by method and face, at any height and level with the base.
 -- From the widths of E and of the factor, by one product; haze adds a trillionth at most. Assumes nothing.
-use mathlib.Core.Path.{_≡_, refl, subst}
+use mathlib.Core.Path.{_≡_, refl}
 use mathlib.Core.Bool.{Bool, true, false}
 use mathlib.Core.List.{List, [], _∷_}
 use Prim.Native.Nat.{ℕ, _+_, _≤_, max}
-use native.Mathlib.Nat.{le-refl, le-max-left, le-max-right}
+use native.Mathlib.Nat.{le-max-left, le-max-right}
 use native.Mathlib.Omega.{arith}
 use lib.Dec.{T, eqb}
 use lib.IntN.{pos}
 use lib.Signed.{nonNeg}
-use Rattle.pairs.specs.declared.answer.Pair.{Pair}
 use Rattle.pairs.specs.Rounded.{rounded}
-use Rattle.pairs.specs.Figures.{Figures}
 use Rattle.pairs.specs.Answers.{answers}
 use Rattle.pairs.proofs.Agreement.{agreement}
 use Rattle.chain.specs.declared.enquiry.Enquiry.{Enquiry}
 use Rattle.chain.specs.Chain.{factor, factor-at, flame-height-of, emissive-power-of, relative-height-of, relative-elevation-of, relative-distance-of, configuration-factor-of, clear-flux, radiant-flux}
 use Rattle.chain.proofs.Bounds as B
 use Rattle.chain.proofs.Bounds.{Bound}
-use Rattle.chain.proofs.Inside.{Inside}
 use Rattle.chain.proofs.Within.{Held, within}
 use Rattle.chain.proofs.Steps.{factor-kept, emissive-power-of-kept, relative-height-of-kept, relative-distance-of-kept, clear-flux-kept}
 use Rattle.chain.proofs.Boxes.{known, every, each, either}
@@ -88,10 +85,6 @@ unfolding opened level-bound
 level-safe = by-method-and-face _ _ tt
 
 -- ---- one enquiry
--- A width, on rounded pairs.
-near-of : {f : Figures} {p : Pair} {b : Bound} (w : ℕ) → f .pair ≡ p → Held f b → b .width ≤ w → p .high ≤ p .low + w
-near-of {b = b} w same h wide = let i = subst (λ p. Inside p b) same (h .inside) in omega (arith, i .near)
-
 abbrev height-bound : Bool → ℕ → Bound
 height-bound from-the-base-up face = elim from-the-base-up [ true ↦ above-bound face | false ↦ below-bound face ]
 
@@ -126,9 +119,9 @@ module _ (E : Enquiry) (t : Tested E) where
   pub flux-near : (radiant-flux rounded E) .high ≤ (radiant-flux rounded E) .low + (width-of (E .method) (E .face) + 1)
   unfolding clear-flux configuration-factor-of
   flux-near =
-      let w = width-of (E .method) (E .face) in
-      let h = at-height (nonNeg (E .height)) in
-      hazy-near E (transmissivity E (t .limited)) w (near-of w (clear-flux-kept agreement E .same (h .given)) h (within-width (nonNeg (E .height))))
+      let up = nonNeg (E .height) in
+      let i = chain.agreed-inside (clear-flux-kept agreement E) (at-height up) in
+      hazy-near E (transmissivity E (t .limited)) _ (omega (arith, i .near, within-width up))
 
   level-held : Held (answers .product (emissive-power-of answers E) (factor answers (E .face) (relative-height-of answers E) (relative-distance-of answers E))) (clear-bound (E .method) (level-bound (E .face)))
   unfolding clear-bound
@@ -138,5 +131,4 @@ module _ (E : Enquiry) (t : Tested E) where
   unfolding level-width-of
   level-near level =
       let K = agreement .product (emissive-power-of-kept agreement E) (factor-kept agreement (E .face) (relative-height-of-kept agreement E) (relative-distance-of-kept agreement E)) in
-      let w = level-width-of (E .method) (E .face) in
-      hazy-near E (transmissivity E (t .limited)) w (rw (clear-level E level) (near-of w (K .same (level-held .given)) level-held (le-refl w)))
+      hazy-near E (transmissivity E (t .limited)) _ (rw (clear-level E level) (chain.agreed-inside K level-held .near))
