@@ -14,6 +14,7 @@ use Rattle.chain.proofs.Inside.{Inside, most-exposed-inside}
 use Rattle.chain.proofs.Within.{Held, Within, within}
 use Rattle.chain.proofs.Steps.{choice-kept, most-exposed-kept}
 
+-- An answer inside a bound agrees with its own pair.
 as-rounded : {f : Figures} {b : Bound} → Held f b → Agrees f (f .pair)
 as-rounded {f} h = itself f (λ _. record { ends = h .inside .ordered })
 

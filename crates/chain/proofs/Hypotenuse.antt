@@ -68,7 +68,7 @@ module _ (a b c d w v s : ℕ) (h : b ≤ a + w) (k : d ≤ c + v) (low : a * a 
       same = omega arith
 
 -- ---- on pairs
--- The one's high end is not above the other's, and its low end less than a millionth.
+-- p beside q: its high end is not above q's, and its low end less than a millionth.
 pub record Covered (p q : Pair) : Type 0 where
   pub high : p .high ≤ q .high
   pub low : p .low < q .low + 1_000_000
