@@ -13,10 +13,10 @@ use Rattle.pairs.proofs.Search.{root-down-next, root-up-passes, root-up-bound}
 use Rattle.pairs.proofs.Ordered.{square-cancels}
 use Rattle.chain.specs.Chain.{most-exposed}
 
+-- ---- on numbers
 square-of-sum : (x y : ℕ) → (x + y) * (x + y) ≡ x * x + 2 * (x * y) + y * y
 square-of-sum x y = omega (arith, add-mul x y (x + y), mul-add x x y, mul-add y x y, mul-comm x y)
 
--- ---- on numbers
 -- A square that is less than U past that of s + 1: a is less than a million past s.
 a-million : (a s : ℕ) → a * a + 2 ≤ suc s * suc s + U → a < s + 1_000_000
 a-million a s h =
@@ -30,8 +30,13 @@ low-within a n h = a-million a (root-down n) (omega (arith, h, down-covers (a * 
 abbrev pub slack : ℕ
 slack = 2_000_001
 
+-- The square of a side that grows by w from at most z.
+grown : (z a b w : ℕ) → b ≤ a + w → a ≤ z → b * b ≤ a * a + 2 * (z * w) + w * w
+grown z a b w h l = omega (arith, mul-le-mul h h, square-of-sum a w, mul-le-mul-right w l)
+
 -- A hypotenuse grows by no more than its two sides do.
 module _ (a b c d w v s : ℕ) (h : b ≤ a + w) (k : d ≤ c + v) (low : a * a + c * c + 2 ≤ suc s * suc s + 2 * U) where
+  -- Its square is past that of s + 1 by more than the four roundings of two products.
   reach : ℕ
   reach = suc s + 2_000_000
 
@@ -44,10 +49,6 @@ module _ (a b c d w v s : ℕ) (h : b ≤ a + w) (k : d ≤ c + v) (low : a * a 
 
   second-side : c ≤ reach
   second-side = square-cancels c reach (omega (arith, low, reach-square))
-
-  -- A side that grew by w, where it was at most z.
-  grown : (z x y u : ℕ) → y ≤ x + u → x ≤ z → y * y ≤ x * x + 2 * (z * u) + u * u
-  grown z x y u i j = omega (arith, mul-le-mul i i, square-of-sum x u, mul-le-mul-right u j)
 
   hypotenuse : b * b + d * d + 2 * U ≤ (s + (w + v + slack)) * (s + (w + v + slack))
   unfolding reach
