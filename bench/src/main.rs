@@ -1,9 +1,12 @@
 //! Times the operations on pairs, compiled from Rattle, beside Rust's u128 on the same random sequence, and compares their check sums;
-//! then whole sheets.
-//! The one argument is the compiled program `speed`.
+//! then whole sheets, then stand-offs.
+//! The arguments are the compiled programs `speed` and `ops`.
 
 mod plain;
+#[path = "../../compare/src/proved.rs"]
+mod proved;
 mod sheets;
+mod stand_offs;
 
 use plain::{Answer, Pair};
 use std::hint::black_box;
@@ -85,6 +88,7 @@ fn compared(program: &str, name: &str, method: &str, count: u64, answer: impl Fn
 
 fn main() {
     let program = std::env::args().nth(1).expect("the path of the compiled program speed");
+    let ops = std::env::args().nth(2).expect("the path of the compiled program ops");
     let numbers = black_box(ends());
     let at = |n| pair_at(&numbers, n);
     let sixteenth = |n| {
@@ -109,5 +113,9 @@ fn main() {
     if !sheets::table() {
         std::process::exit(1);
     }
-    println!("All bytes agree.");
+    println!("All bytes agree.\n");
+    if !stand_offs::table(&ops) {
+        std::process::exit(1);
+    }
+    println!("All stand-offs agree.");
 }

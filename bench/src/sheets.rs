@@ -1,10 +1,7 @@
 //! Times `fill` of the proved library beside that of the Rust version by other hands, on the same sheets, and compares their bytes.
 
-#[path = "../../compare/src/proved.rs"]
-mod proved;
-
+use crate::proved::{self, REQUESTS};
 use crate::stepped;
-use proved::REQUESTS;
 use std::hint::black_box;
 use std::time::Instant;
 

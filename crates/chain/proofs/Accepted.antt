@@ -1,7 +1,7 @@
 -- No operation refuses before the flame test inside the limits of 11 and 12, and none at all in an accepted enquiry, at any
 -- height and through any haze; the pair it gives is ordered and fits. From the sweeps, by the agreement of answers and rounded
 -- pairs. Assumes nothing.
-use mathlib.Core.Path.{_≡_, subst, ap}
+use mathlib.Core.Path.{_≡_, sym, subst, ap, _∙_}
 use mathlib.Core.Bool.{true, false, not}
 use Prim.Native.Nat.{ℕ, _*_, _≤_}
 use native.Mathlib.Nat.{le-trans, mul-le-mul-left}
@@ -153,13 +153,17 @@ accepted E t =
     }
 
 -- ---- as printed
-no-stage-too-large : (E : Enquiry) → Tested E → stage-too-large E ≡ false
+pub no-stage-too-large : (E : Enquiry) → Tested E → stage-too-large E ≡ false
 unfolding stage-too-large
 no-stage-too-large E t = rw (accepted E t .flux-given)
 
 pub shown : (E : Enquiry) → Tested E → flux-of E ≡ record { state = 0; low = low-of E; high = high-of E; note = note-of E }
 shown E t = tested-shown E t (no-stage-too-large E t)
 
--- 17 is never given.
+-- A state that is none of 11 to 16, 18 and 19 is 0: so 17 is never given.
+pub no-other-state :
+    (E : Enquiry) (k : ℕ) → ((n : ℕ) → 11 ≤ n → n ≤ 19 → (n ≡ 17 → ⊥) → n ≡ k → ⊥) → (flux-of E) .state ≡ k → k ≡ 0
+no-other-state E k other e = sym e ∙ ap (λ (s : Shown). s .state) (shown E (past-tests E k other e))
+
 pub never-17 : (E : Enquiry) → (flux-of E) .state ≡ 17 → ⊥
-never-17 E e = let z = ap (λ (s : Shown). s .state) (shown E (past-tests E 17 (λ n l u other k. other k) e)) in omega (arith, e, z)
+never-17 E e = let z = no-other-state E 17 (λ n l u other k. other k) e in omega (arith, z)

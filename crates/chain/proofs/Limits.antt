@@ -9,7 +9,9 @@ use lib.Dec.{T, leb, leb→le, lit≤}
 use lib.IntN.{ℤ, pos, negsuc, natAbs}
 use Rattle.pairs.proofs.Tests.{past-test}
 use Rattle.chain.specs.declared.enquiry.Enquiry.{Enquiry}
-use Rattle.chain.specs.Flux.{Shown, outside, fuel-within, height-outside, flame-too-low, stage-too-large, low-of, high-of, note-of, flux-of}
+use Rattle.chain.specs.declared.enquiry.Turned.{Turned}
+use Rattle.chain.specs.declared.enquiry.Turned.the-variants as turned
+use Rattle.chain.specs.Flux.{Shown, number-of, outside, fuel-within, height-outside, flame-too-low, stage-too-large, low-of, high-of, note-of, flux-of}
 use Rattle.chain.specs.Private.{Limited}
 use Rattle.chain.proofs.AreaBox.{Fuel}
 
@@ -85,3 +87,15 @@ accepted-tested E = past-tests E 0 (λ n l u h e. omega arith)
 pub tested-shown : (E : Enquiry) → Tested E → stage-too-large E ≡ false → flux-of E ≡ record { state = 0; low = low-of E; high = high-of E; note = note-of E }
 unfolding flux-of
 tested-shown E t large = let w = t .limited in rw (w .fuel, w .area, w .method, w .distance, w .face, w .height, w .transmissivity, t .flame, large)
+
+-- No refusal has the number 0.
+pub numbered : (why : Turned) → number-of why ≡ 0 → ⊥
+numbered turned.Fuel e = omega arith
+numbered turned.Area e = omega arith
+numbered turned.Method e = omega arith
+numbered turned.Distance e = omega arith
+numbered turned.Face e = omega arith
+numbered turned.Height e = omega arith
+numbered turned.Transmissivity e = omega arith
+numbered turned.LowFlame e = omega arith
+numbered turned.TooLarge e = omega arith

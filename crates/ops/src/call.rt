@@ -2,16 +2,19 @@
 use crate::enquiry::enquiry;
 use crate::enquiry::factor_alone;
 use crate::line::Numbers;
+use crate::stand_off::stand_off_of;
 use chain::enquiry::Factor;
 use chain::enquiry::Flux;
 use check::same;
 use pairs::answer::Answer;
 use pairs::answer::Pair;
+use planning::stand_off::StandOff;
 
 pub(crate) enum Reply {
     Operation(Answer),
     Enquiry(Flux),
     FactorAlone(Factor),
+    StandOff(StandOff),
     Unreadable,
 }
 
@@ -95,7 +98,7 @@ fn operation(name: &[u8], count: usize, values: [u64; 9]) -> Reply {
     }
 }
 
-// The enquiry, the factor or the operation of this name on these numbers.
+// The enquiry, the factor, the stand-off or the operation of this name on these numbers.
 pub(crate) fn called(name: &[u8], ns: Numbers) -> Reply {
     if !ns.readable {
         return Reply::Unreadable;
@@ -107,6 +110,9 @@ pub(crate) fn called(name: &[u8], ns: Numbers) -> Reply {
     }
     if same(name, b"factor") {
         return factor_alone(count, values);
+    }
+    if same(name, b"standoff") {
+        return stand_off_of(count, values, ns.negative);
     }
     operation(name, count, values)
 }

@@ -1,33 +1,8 @@
 // An enquiry, and a factor alone. A number too large for its type makes the line unreadable.
 use crate::call::Reply;
+use crate::height::Height;
+use crate::height::height_of;
 use chain::enquiry::Enquiry;
-
-// A height, or one that no i32 holds.
-enum Height {
-    Is(i32),
-    TooLarge,
-}
-
-// -size, which is the complement of size - 1: so nothing overflows.
-fn below_zero(size: u64) -> Height {
-    if size == 0 {
-        return Height::Is(0);
-    }
-    if 2_147_483_648 < size {
-        return Height::TooLarge;
-    }
-    Height::Is(!((size - 1) as i32))
-}
-
-fn height_of(size: u64, negative: bool) -> Height {
-    if negative {
-        return below_zero(size);
-    }
-    if 2_147_483_647 < size {
-        return Height::TooLarge;
-    }
-    Height::Is(size as i32)
-}
 
 // The numbers m k c a method d face transmissivity of a line, with its height.
 fn at_height(values: [u64; 9], height: i32) -> Reply {

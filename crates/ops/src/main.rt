@@ -1,8 +1,10 @@
-// Reads lines, each a name and its numbers, and prints what is answered: the state (0, or the number of the refusal), the two ends, and
-// for an enquiry the note. A line that cannot be read prints `unreadable`.
+// Reads lines, each a name and its numbers, and prints what is answered: the state (0, or the number of the refusal), for a stand-off the
+// distance in decimetres, the two ends, and for an enquiry the note. A line that cannot be read prints `unreadable`.
 mod call;
 mod enquiry;
+mod height;
 mod line;
+mod stand_off;
 
 use call::Reply;
 use call::called;
@@ -15,6 +17,7 @@ use libc::STDOUT_FILENO;
 use line::numbers_in;
 use line::place_of;
 use pairs::answer::Answer;
+use planning::stand_off::StandOff;
 
 // 21 to 23 of document 01.
 fn outside_number(why: Outside) -> u64 {
@@ -33,6 +36,11 @@ fn print_after_blank(n: u64) {
 fn print_pair(state: u64, low: u64, high: u64) {
     io::print_decimal(STDOUT_FILENO, state);
     print_after_blank(low);
+    print_after_blank(high);
+}
+
+fn print_place(state: u64, decimetres: u64, low: u64, high: u64) {
+    print_pair(state, decimetres, low);
     print_after_blank(high);
 }
 
@@ -67,11 +75,21 @@ fn print_flux(f: Flux) {
     }
 }
 
+// 41 of document 02, after the flux's own.
+fn print_stand_off(s: StandOff) {
+    match s {
+        StandOff::Is(p) => print_place(0, p.decimetres as u64, p.low as u64, p.high as u64),
+        StandOff::Refused(why) => print_place(number(why) as u64, 0, 0, 0),
+        StandOff::OverLimit => print_place(41, 0, 0, 0),
+    }
+}
+
 fn print_reply(r: Reply) {
     match r {
         Reply::Operation(a) => print_operation(a),
         Reply::Enquiry(f) => print_flux(f),
         Reply::FactorAlone(f) => print_factor(f),
+        Reply::StandOff(s) => print_stand_off(s),
         Reply::Unreadable => {
             io::write_all(STDOUT_FILENO, b"unreadable");
         }

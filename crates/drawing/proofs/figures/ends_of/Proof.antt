@@ -1,11 +1,9 @@
 -- `ends_of` meets its contract: each case of the flux has its own ends.
 -- Assumes nothing.
-use mathlib.Core.Path.{_≡_, sym, ap, _∙_}
-use native.Mathlib.Omega.{arith}
-use Rattle.chain.specs.declared.enquiry.Turned.{Turned}
-use Rattle.chain.specs.declared.enquiry.Turned.the-variants as turned
+use mathlib.Core.Path.{sym, ap, _∙_}
 use Rattle.chain.specs.Flux as flux
 use Rattle.chain.specs.Flux.{shown, number-of}
+use Rattle.chain.proofs.Limits.{numbered}
 use Rattle.drawing.specs.declared.figures.Ends.the-variants.{Refused}
 use Rattle.drawing.specs.Floats.{float}
 use Rattle.drawing.specs.Figures.{ends, ends-of}
@@ -31,18 +29,6 @@ enum-known-f-2 c = search needs
 
 number-requires : tie.Need-number-requires
 number-requires c κs = search needs
-
--- no refusal has the number 0
-numbered : (why : Turned) → number-of why ≡ 0 → ⊥
-numbered turned.Fuel e = omega arith
-numbered turned.Area e = omega arith
-numbered turned.Method e = omega arith
-numbered turned.Distance e = omega arith
-numbered turned.Face e = omega arith
-numbered turned.Height e = omega arith
-numbered turned.Transmissivity e = omega arith
-numbered turned.LowFlame e = omega arith
-numbered turned.TooLarge e = omega arith
 
 returns : tie.Need-returns
 unfolding ends-of float

@@ -1,0 +1,37 @@
+-- The three outcomes of a stand-off, by what the flux shows at 2,000 decimetres: a refusal of its own, 41, or an answer.
+-- By the outcomes of the tests. Assumes nothing.
+use mathlib.Core.Path.{_≡_, refl}
+use Prim.Native.Nat.{ℕ, zero, suc, _<_}
+use native.Mathlib.Nat.{lt-of-not-le}
+use native.Mathlib.Decide.{decLe}
+use native.Mathlib.Omega.{arith}
+use borrow.Author.Tests.{lt-ltb, le-ltb}
+use Rattle.planning.specs.declared.scenario.Scenario.{Scenario}
+use Rattle.planning.specs.StandOff.{refused, flux-at, stand-off, answered, stand-off-of}
+use Rattle.planning.specs.Claims.{Kept, Over}
+
+module _ (S : Scenario) (limit : ℕ) where
+  pub flux-first : (n : ℕ) → 0 < n → flux-at S 2_000 .state ≡ n → stand-off-of S limit ≡ refused n
+  unfolding stand-off-of
+  flux-first n p e = rw (e, lt-ltb 0 n p)
+
+  pub over : Over S limit → stand-off-of S limit ≡ refused 41
+  unfolding stand-off-of
+  over o = rw (o .accepted, lt-ltb limit (flux-at S 2_000 .high) (o .high))
+
+  pub kept : Kept S limit 2_000 → stand-off-of S limit ≡ answered S (stand-off S limit)
+  unfolding stand-off-of
+  kept k = rw (k .accepted, le-ltb limit (flux-at S 2_000 .high) (k .high))
+
+  -- There is no other.
+  pub by-farthest :
+      (P : Type 0) → ((n : ℕ) → 0 < n → flux-at S 2_000 .state ≡ n → P) → (Over S limit → P) → (Kept S limit 2_000 → P) → P
+  by-farthest P refusal over kept = by-state (flux-at S 2_000 .state) refl
+    where
+      by-state : (n : ℕ) → flux-at S 2_000 .state ≡ n → P
+      by-state zero e =
+          elim (decLe (flux-at S 2_000 .high) limit) [
+            | yes k ↦ kept (record { accepted = e; high = k })
+            | no k ↦ over (record { accepted = e; high = lt-of-not-le k })
+          ]
+      by-state (suc n) e = refusal (suc n) (omega arith) e

@@ -1,0 +1,65 @@
+-- Request 7: "Flux refusals do not depend on the distance inside the span." 14 is the only test that reads the distance, 16 reads the
+-- pool alone, and 17 is never given. By the outcomes of the tests, one after another. Assumes nothing.
+use mathlib.Core.Path.{_≡_, refl}
+use mathlib.Core.Bool.{Bool, true, false, not}
+use Prim.Native.Nat.{ℕ, _≤_}
+use borrow.Author.Tests.{le-leb}
+use Rattle.pairs.specs.Figures.{refuse}
+use Rattle.chain.specs.declared.enquiry.Enquiry.{Enquiry}
+use Rattle.chain.specs.Chain.{diameter-of, unabsorbed-of, heat-release-of, burning-rate-of, froude-number-of, flame-1-of, flame-2-of, flame-3-of, flame-of, flame-height-of}
+use Rattle.chain.specs.Flux.{Shown, refused, outside, fuel-within, height-outside, flame-too-low, stage-too-large, low-of, high-of, note-of, flux-of}
+use Rattle.chain.proofs.Limits.{Tested}
+use Rattle.chain.proofs.Accepted.{no-stage-too-large}
+use Rattle.planning.specs.declared.scenario.Scenario.{Scenario}
+use Rattle.planning.specs.Scenario.{at-distance}
+
+-- A result after the tests of 11 to 16, 18 and 19, where that of 14 does not refuse.
+abbrev tested : Bool → Bool → Bool → Bool → Bool → Bool → Bool → Shown → Shown
+tested fuel area method face height air flame s =
+    refuse fuel (refused 11)
+    (refuse area (refused 12)
+    (refuse method (refused 13)
+    (refuse false (refused 14)
+    (refuse face (refused 15)
+    (refuse height (refused 18)
+    (refuse air (refused 19)
+    (refuse flame (refused 16) s)))))))
+
+-- Two results after the same tests have one state, if they have where no test refuses.
+same-tests :
+    (fuel area method face height air flame : Bool) (s t : Shown)
+    → (fuel ≡ false → area ≡ false → method ≡ false → face ≡ false → height ≡ false → air ≡ false → flame ≡ false → s .state ≡ t .state)
+    → (tested fuel area method face height air flame s) .state ≡ (tested fuel area method face height air flame t) .state
+same-tests true area method face height air flame s t h = refl
+same-tests false true method face height air flame s t h = refl
+same-tests false false true face height air flame s t h = refl
+same-tests false false false true height air flame s t h = refl
+same-tests false false false false true air flame s t h = refl
+same-tests false false false false false true flame s t h = refl
+same-tests false false false false false false true s t h = refl
+same-tests false false false false false false false s t h = h refl refl refl refl refl refl refl
+
+inside : (least most n : ℕ) → least ≤ n → n ≤ most → outside least most n ≡ false
+inside least most n l h = rw (le-leb least n l, le-leb n most h)
+
+-- What follows those tests: that of 17, and then the figures.
+abbrev last : Enquiry → Shown
+last E = refuse (stage-too-large E) (refused 17) (record { state = 0; low = low-of E; high = high-of E; note = note-of E })
+
+pub same-state :
+    (S : Scenario) (a b : ℕ) → 1_000 ≤ a → a ≤ 200_000 → 1_000 ≤ b → b ≤ 200_000
+    → flux-of (at-distance S a) .state ≡ flux-of (at-distance S b) .state
+unfolding flux-of fuel-within flame-too-low flame-height-of flame-of flame-1-of flame-2-of flame-3-of diameter-of unabsorbed-of heat-release-of burning-rate-of froude-number-of
+same-state S a b la ha lb hb =
+    let A = at-distance S a in
+    let B = at-distance S b in
+    let near = inside 1_000 200_000 a la ha in
+    let far = inside 1_000 200_000 b lb hb in
+    rw (near, far)
+    (same-tests
+    (not (fuel-within A)) (outside 100 190_000 (S .area)) (outside 1 3 (S .method)) (outside 1 3 (S .face))
+    (height-outside (S .height)) (outside 1 1_000 (S .transmissivity)) (flame-too-low A) (last A) (last B)
+    (λ f r m s h t l.
+    let tested-a : Tested A = record { limited = record { fuel = f; area = r; method = m; distance = near; face = s; height = h; transmissivity = t }; flame = l } in
+    let tested-b : Tested B = record { limited = record { fuel = f; area = r; method = m; distance = far; face = s; height = h; transmissivity = t }; flame = l } in
+    rw (no-stage-too-large A tested-a, no-stage-too-large B tested-b) refl))
