@@ -73,22 +73,23 @@ pub fn table(program: &str) -> bool {
     println!("| stand-off of 1,991 enquiries | Rattle, ms | Rust, ms | times faster |");
     println!("|---|---|---|---|");
     let mut agree = true;
-    for (method, face, height, name) in [
-        (1, 1, 0, "method 1, vertical, height 0"),
-        (1, 3, 2_000, "method 1, tilted, above the base"),
-        (2, 3, 2_000, "method 2, tilted, above the base"),
-        (3, 3, 2_000, "method 3, tilted, above the base"),
+    for (name, fuel, area, method, face, height, transmissivity) in [
+        ("method 1, vertical, height 0", [39, 350, 432], 7_854, 1, 1, 0, 1_000),
+        ("method 2, tilted, above the base", [39, 350, 432], 7_854, 2, 3, 2_000, 900),
+        ("method 3, horizontal, below the base", [85, 120, 430], 7_854, 3, 2, -2_000, 850),
+        ("method 3, tilted, above the flame", [29, 377, 100], 100, 3, 3, 20_000, 1),
     ] {
+        let [burning_rate, absorption, heat_of_combustion] = fuel;
         let q = Enquiry {
-            burning_rate: 39,
-            absorption: 350,
-            heat_of_combustion: 432,
-            area: 7_854,
+            burning_rate,
+            absorption,
+            heat_of_combustion,
+            area,
             method,
             rim_distance: 0,
             face,
             height,
-            transmissivity: 1_000,
+            transmissivity,
         };
         agree = compared(program, name, &q) && agree;
     }
