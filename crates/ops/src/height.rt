@@ -1,4 +1,5 @@
-// A height of a line.
+// The height of a line, which may have a sign.
+
 // A height, or one that no i32 holds.
 pub(crate) enum Height {
     Is(i32),

@@ -40,7 +40,9 @@ fn print_pair(state: u64, low: u64, high: u64) {
 }
 
 fn print_place(state: u64, decimetres: u64, low: u64, high: u64) {
-    print_pair(state, decimetres, low);
+    io::print_decimal(STDOUT_FILENO, state);
+    print_after_blank(decimetres);
+    print_after_blank(low);
     print_after_blank(high);
 }
 
