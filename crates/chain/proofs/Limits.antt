@@ -1,11 +1,13 @@
--- The tests of one flux as facts: numbers inside their limits, and an accepted enquiry as one to which no number applies.
+-- The tests of one flux as facts: numbers inside their limits, an accepted enquiry as one to which no number applies, and the
+-- numbers of refusals above 0.
 -- By the outcomes of the tests, one after another. Assumes nothing.
 use mathlib.Core.Path.{_≡_, refl, subst}
 use mathlib.Core.Bool.{Bool, true, false, _&&_, not}
-use Prim.Native.Nat.{ℕ, _≤_}
+use Prim.Native.Nat.{ℕ, _≤_, _<_}
 use native.Mathlib.Nat.{le-trans}
 use native.Mathlib.Omega.{arith}
-use lib.Dec.{T, leb, leb→le, lit≤}
+use lib.Dec.{T, leb, leb→le, lit≤, lit<}
+use borrow.Author.Tests.{le-leb}
 use lib.IntN.{ℤ, pos, negsuc, natAbs}
 use Rattle.pairs.proofs.Tests.{past-test}
 use Rattle.chain.specs.declared.enquiry.Enquiry.{Enquiry}
@@ -33,6 +35,9 @@ pub between : (least most n : ℕ) → outside least most n ≡ false → Betwee
 between least most n e =
     let t = both (leb least n) (leb n most) e in
     record { low = leb→le least n (t .0); high = leb→le n most (t .1) }
+
+pub inside : (least most n : ℕ) → least ≤ n → n ≤ most → outside least most n ≡ false
+inside least most n l h = rw (le-leb least n l, le-leb n most h)
 
 three : (a b c : Bool) → not (not a && not b && not c) ≡ false → (a ≡ false) × (b ≡ false) × (c ≡ false)
 three false false false e = (refl, refl, refl)
@@ -89,13 +94,13 @@ unfolding flux-of
 tested-shown E t large = let w = t .limited in rw (w .fuel, w .area, w .method, w .distance, w .face, w .height, w .transmissivity, t .flame, large)
 
 -- No refusal has the number 0.
-pub numbered : (why : Turned) → number-of why ≡ 0 → ⊥
-numbered turned.Fuel e = omega arith
-numbered turned.Area e = omega arith
-numbered turned.Method e = omega arith
-numbered turned.Distance e = omega arith
-numbered turned.Face e = omega arith
-numbered turned.Height e = omega arith
-numbered turned.Transmissivity e = omega arith
-numbered turned.LowFlame e = omega arith
-numbered turned.TooLarge e = omega arith
+pub number-above-0 : (why : Turned) → 0 < number-of why
+number-above-0 turned.Fuel = lit< tt
+number-above-0 turned.Area = lit< tt
+number-above-0 turned.Method = lit< tt
+number-above-0 turned.Distance = lit< tt
+number-above-0 turned.Face = lit< tt
+number-above-0 turned.Height = lit< tt
+number-above-0 turned.Transmissivity = lit< tt
+number-above-0 turned.LowFlame = lit< tt
+number-above-0 turned.TooLarge = lit< tt

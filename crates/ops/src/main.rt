@@ -39,7 +39,7 @@ fn print_pair(state: u64, low: u64, high: u64) {
     print_after_blank(high);
 }
 
-fn print_place(state: u64, decimetres: u64, low: u64, high: u64) {
+fn print_pair_at(state: u64, decimetres: u64, low: u64, high: u64) {
     io::print_decimal(STDOUT_FILENO, state);
     print_after_blank(decimetres);
     print_after_blank(low);
@@ -80,9 +80,9 @@ fn print_flux(f: Flux) {
 // 41 of document 02, after the flux's own.
 fn print_stand_off(s: StandOff) {
     match s {
-        StandOff::Is(p) => print_place(0, p.decimetres as u64, p.low as u64, p.high as u64),
-        StandOff::Refused(why) => print_place(number(why) as u64, 0, 0, 0),
-        StandOff::OverLimit => print_place(41, 0, 0, 0),
+        StandOff::Is(p) => print_pair_at(0, p.decimetres as u64, p.low as u64, p.high as u64),
+        StandOff::Refused(why) => print_pair_at(number(why) as u64, 0, 0, 0),
+        StandOff::OverLimit => print_pair_at(41, 0, 0, 0),
     }
 }
 

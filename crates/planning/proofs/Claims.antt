@@ -11,11 +11,10 @@ use Rattle.chain.proofs.Accepted.{no-other-state}
 use Rattle.exact.proofs.Demand3.{demand-3}
 use Rattle.planning.specs.declared.scenario.Scenario.{Scenario}
 use Rattle.planning.specs.Scenario.{at-distance}
-use Rattle.planning.specs.StandOff as shown-by
-use Rattle.planning.specs.StandOff.{Shown, refused, flux-at, keeps-from, stand-off, stand-off-of}
+use Rattle.planning.specs.StandOff.{Shown, refused, flux-at, keeps-from, stand-off, shown-at, stand-off-of}
 use Rattle.planning.specs.Claims.{Kept, KeptFrom, Answered, Over, Zeros, Claims}
 use Rattle.planning.proofs.Outcomes.{flux-first, over, kept, by-farthest}
-use Rattle.planning.proofs.Nearest.{found, at-most, enough, kept-each, kept-all, kept-farthest, kept-nearer}
+use Rattle.planning.proofs.Nearest.{found, at-most, enough, keeps-each, keeps-all, keeps-farthest, keeps-nearer}
 use Rattle.planning.proofs.SameState.{same-state}
 
 refused-zeros : {n : ℕ} → Zeros (refused n)
@@ -49,31 +48,31 @@ module _ (S : Scenario) (limit : ℕ) where
   accepted-at k d l h = same-state S (100 * d) 200_000 (omega arith) (omega arith) (lit≤ tt) (le-refl _) ∙ k .accepted
 
   beyond : Kept S limit 2_000 → (d : ℕ) → 10 ≤ d → T (keeps-from S limit d) → KeptFrom S limit d
-  beyond k d least t x l h = record { accepted = accepted-at k x (le-trans least l) h; high = kept-each S limit d t x l h }
+  beyond k d least t x l h = record { accepted = accepted-at k x (le-trans least l) h; high = keeps-each S limit d t x l h }
 
   before : (d : ℕ) → d ≤ 2_000 → T (keeps-from S limit d) → stand-off S limit ≡ d → 10 < d → limit < flux-at S (d - 1) .high
   before d most t e l =
       lt-of-not-le
       (λ h.
-      let nearer = at-most S limit (d - 1) (enough S limit (d - 1) (omega arith) (kept-nearer S limit d (d - 1) (omega arith) most t h)) in
+      let nearer = at-most S limit (d - 1) (enough S limit (d - 1) (omega arith) (keeps-nearer S limit d (d - 1) (omega arith) most t h)) in
       omega (arith, nearer, e, l))
 
   smallest : stand-off S limit ≤ 2_000 → (d : ℕ) → 10 ≤ d → KeptFrom S limit d → stand-off S limit ≤ d
   smallest most d l h =
       elim (decLe d 2_000) [
-        | yes n ↦ at-most S limit d (enough S limit d l (kept-all S limit d n (λ x a b. h x a b .high)))
+        | yes n ↦ at-most S limit d (enough S limit d l (keeps-all S limit d n (λ x a b. h x a b .high)))
         | no n ↦ omega (arith, lt-of-not-le n)
       ]
 
-  answer : Kept S limit 2_000 → Answered S limit (shown-by.answered S (stand-off S limit))
+  answer : Kept S limit 2_000 → Answered S limit (shown-at S (stand-off S limit))
   answer k =
-      let f = found S limit 2_000 (le-refl _) (enough S limit 2_000 (lit≤ tt) (kept-farthest S limit (k .high))) in
+      let f = found S limit 2_000 (le-refl _) (enough S limit 2_000 (lit≤ tt) (keeps-farthest S limit (k .high))) in
       let d = stand-off S limit in
       record {
         least = f .least;
         most = f .most;
-        beyond = beyond k d (f .least) (f .kept);
-        before = before d (f .most) (f .kept) refl;
+        beyond = beyond k d (f .least) (f .keeps);
+        before = before d (f .most) (f .keeps) refl;
         smallest = smallest (f .most);
         low = refl;
         high = refl;

@@ -3,5 +3,7 @@ pub mod Every
 pub mod Nearest
 pub mod SameState
 pub mod Outcomes
-pub mod Places
+pub mod PairAt
 pub mod Claims
+pub mod Returned
+pub mod Examples

@@ -14,23 +14,23 @@ use Rattle.planning.proofs.Every.{each, all}
 
 module _ (S : Scenario) (limit : ℕ) where
   -- ---- the limit is kept from d to 2,000 decimetres
-  pub kept-each : (d : ℕ) → T (keeps-from S limit d) → (x : ℕ) → d ≤ x → x ≤ 2_000 → flux-at S x .high ≤ limit
+  pub keeps-each : (d : ℕ) → T (keeps-from S limit d) → (x : ℕ) → d ≤ x → x ≤ 2_000 → flux-at S x .high ≤ limit
   unfolding keeps-from keeps
-  kept-each d t x l h = leb→le (flux-at S x .high) limit (each (keeps S limit) d (2_000 - d) t x l (omega arith))
+  keeps-each d t x l h = leb→le (flux-at S x .high) limit (each (keeps S limit) d (2_000 - d) t x l (omega arith))
 
-  pub kept-all : (d : ℕ) → d ≤ 2_000 → ((x : ℕ) → d ≤ x → x ≤ 2_000 → flux-at S x .high ≤ limit) → T (keeps-from S limit d)
+  pub keeps-all : (d : ℕ) → d ≤ 2_000 → ((x : ℕ) → d ≤ x → x ≤ 2_000 → flux-at S x .high ≤ limit) → T (keeps-from S limit d)
   unfolding keeps-from keeps
-  kept-all d h k = all (keeps S limit) d (2_000 - d) (λ x l m. le→leb (flux-at S x .high) limit (k x l (omega arith)))
+  keeps-all d h k = all (keeps S limit) d (2_000 - d) (λ x l m. le→leb (flux-at S x .high) limit (k x l (omega arith)))
 
-  pub kept-farthest : flux-at S 2_000 .high ≤ limit → T (keeps-from S limit 2_000)
-  kept-farthest k = kept-all 2_000 (le-refl 2_000) (λ x l h. let e : 2_000 ≡ x = omega arith in subst (λ y. flux-at S y .high ≤ limit) e k)
+  pub keeps-farthest : flux-at S 2_000 .high ≤ limit → T (keeps-from S limit 2_000)
+  keeps-farthest k = keeps-all 2_000 (le-refl 2_000) (λ x l h. let e : 2_000 ≡ x = omega arith in subst (λ y. flux-at S y .high ≤ limit) e k)
 
   -- One decimetre nearer.
-  pub kept-nearer : (d x : ℕ) → suc x ≡ d → d ≤ 2_000 → T (keeps-from S limit d) → flux-at S x .high ≤ limit → T (keeps-from S limit x)
-  kept-nearer d x n h t k =
-      kept-all x (omega arith)
+  pub keeps-nearer : (d x : ℕ) → suc x ≡ d → d ≤ 2_000 → T (keeps-from S limit d) → flux-at S x .high ≤ limit → T (keeps-from S limit x)
+  keeps-nearer d x n h t k =
+      keeps-all x (omega arith)
       (λ y l m. elim (decLe d y) [
-        | yes b ↦ kept-each d t y b m
+        | yes b ↦ keeps-each d t y b m
         | no b ↦ (let e : x ≡ y = omega (arith, lt-of-not-le b) in subst (λ z. flux-at S z .high ≤ limit) e k)
       ])
 
@@ -38,7 +38,7 @@ module _ (S : Scenario) (limit : ℕ) where
   pub record Found : Type 0 where
     pub least : 10 ≤ stand-off S limit
     pub most : stand-off S limit ≤ 2_000
-    pub kept : T (keeps-from S limit (stand-off S limit))
+    pub keeps : T (keeps-from S limit (stand-off S limit))
 
   pub found : (d : ℕ) → d ≤ 2_000 → T (far-enough S limit d) → Found
   unfolding far-enough stand-off
@@ -48,7 +48,7 @@ module _ (S : Scenario) (limit : ℕ) where
       record {
         least = leb→le 10 g (and-l (leb 10 g) _ p);
         most = least-within (far-enough S limit) 2_000;
-        kept = and-r (leb 10 g) _ p;
+        keeps = and-r (leb 10 g) _ p;
       }
 
   pub at-most : (d : ℕ) → T (far-enough S limit d) → stand-off S limit ≤ d
@@ -69,6 +69,6 @@ module _ (S : Scenario) (limit : ℕ) where
         | yes k ↦ omega arith
         | no k ↦ (
             let nearer : stand-off S limit < d = lt-of-not-le k in
-            absurd (not-le-of-lt (before (omega arith)) (kept-each (stand-off S limit) (f .kept) (d - 1) (omega arith) (omega arith)))
+            absurd (not-le-of-lt (before (omega arith)) (keeps-each (stand-off S limit) (f .keeps) (d - 1) (omega arith) (omega arith)))
             )
       ]

@@ -3,12 +3,11 @@
 use mathlib.Core.Path.{_≡_, refl}
 use mathlib.Core.Bool.{Bool, true, false, not}
 use Prim.Native.Nat.{ℕ, _≤_}
-use borrow.Author.Tests.{le-leb}
 use Rattle.pairs.specs.Figures.{refuse}
 use Rattle.chain.specs.declared.enquiry.Enquiry.{Enquiry}
 use Rattle.chain.specs.Chain.{diameter-of, unabsorbed-of, heat-release-of, burning-rate-of, froude-number-of, flame-1-of, flame-2-of, flame-3-of, flame-of, flame-height-of}
 use Rattle.chain.specs.Flux.{Shown, refused, outside, fuel-within, height-outside, flame-too-low, stage-too-large, low-of, high-of, note-of, flux-of}
-use Rattle.chain.proofs.Limits.{Tested}
+use Rattle.chain.proofs.Limits.{Tested, inside}
 use Rattle.chain.proofs.Accepted.{no-stage-too-large}
 use Rattle.planning.specs.declared.scenario.Scenario.{Scenario}
 use Rattle.planning.specs.Scenario.{at-distance}
@@ -38,9 +37,6 @@ same-tests false false false false true air flame s t h = refl
 same-tests false false false false false true flame s t h = refl
 same-tests false false false false false false true s t h = refl
 same-tests false false false false false false false s t h = h refl refl refl refl refl refl refl
-
-inside : (least most n : ℕ) → least ≤ n → n ≤ most → outside least most n ≡ false
-inside least most n l h = rw (le-leb least n l, le-leb n most h)
 
 -- What follows those tests: that of 17, and then the figures.
 abbrev last : Enquiry → Shown

@@ -7,7 +7,7 @@ use Rattle.planning.specs.declared.scenario.Scenario.{Scenario}
 use Rattle.planning.specs.Scenario.{at-distance}
 use Rattle.planning.specs.StandOff.{Shown, flux-at, stand-off-of}
 
--- "a high figure at most the limit", from an enquiry that is accepted, at d decimetres.
+-- At d decimetres the enquiry is accepted and has "a high figure at most the limit".
 pub record Kept (S : Scenario) (limit d : ℕ) : Type 0 where
   pub accepted : flux-at S d .state ≡ 0
   pub high : flux-at S d .high ≤ limit

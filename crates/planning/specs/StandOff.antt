@@ -32,7 +32,7 @@ shown OverLimit = refused 41
 abbrev pub flux-at : Scenario → ℕ → flux.Shown
 flux-at S d = flux-of (at-distance S (100 * d))
 
--- "a high figure at most the limit"
+-- "a high figure at most the limit"; so has a refused enquiry, which shows 0, but from 10 to 2,000 decimetres none is met (Claims)
 unfoldable pub keeps : Scenario → ℕ → ℕ → Bool
 keeps S limit d = leb (flux-at S d .high) limit
 
@@ -45,16 +45,17 @@ every passes d (suc n) = passes d && every passes (suc d) n
 unfoldable pub keeps-from : Scenario → ℕ → ℕ → Bool
 keeps-from S limit d = every (keeps S limit) d (2_000 - d)
 
--- "the smallest rim distance in whole decimetres, 10 to 2,000, from which" they do
+-- "in whole decimetres, 10 to 2,000, from which" they do
 unfoldable pub far-enough : Scenario → ℕ → ℕ → Bool
 far-enough S limit d = leb 10 d && keeps-from S limit d
 
+-- "the smallest rim distance"; where none is far enough, not 2,000 either, 41 comes before
 unfoldable pub stand-off : Scenario → ℕ → ℕ
 stand-off S limit = least (far-enough S limit) 2_000
 
 -- "Say also the pair at that distance."
-abbrev pub answered : Scenario → ℕ → Shown
-answered S d = record { state = 0; decimetres = d; low = flux-at S d .low; high = flux-at S d .high }
+abbrev pub shown-at : Scenario → ℕ → Shown
+shown-at S d = record { state = 0; decimetres = d; low = flux-at S d .low; high = flux-at S d .high }
 
 -- "Where an enquiry at 2,000 decimetres is refused, that refusal is returned."; "41, the high figure at 2,000 decimetres is over
 -- the limit, after the flux refusals."
@@ -62,4 +63,4 @@ unfoldable pub stand-off-of : Scenario → ℕ → Shown
 stand-off-of S limit =
     refuse (ltb 0 (flux-at S 2_000 .state)) (refused (flux-at S 2_000 .state))
     (refuse (ltb limit (flux-at S 2_000 .high)) (refused 41)
-    (answered S (stand-off S limit)))
+    (shown-at S (stand-off S limit)))

@@ -1,4 +1,4 @@
-// The stand-off of a scenario: the nearest rim distance from which the limit is kept all the way out.
+// The stand-off of a scenario: the smallest rim distance from which every distance of the span keeps the limit.
 use super::scenario::Scenario;
 use super::scenario::at_distance;
 use chain::enquiry::Flux;
@@ -8,10 +8,10 @@ ghost use mathlib.Core.Path.{_≡_};
 ghost use Prim.Native.Nat.{_≤_};
 ghost use Rattle.chain.specs.Flux as chain;
 ghost use Rattle.planning.specs.declared.stand_off.StandOff.the-variants.{Is};
-ghost use Rattle.planning.specs.StandOff.{flux-at, answered, stand-off, stand-off-of, shown};
+ghost use Rattle.planning.specs.StandOff.{shown, flux-at, shown-at, stand-off, stand-off-of};
 
 // A rim distance in decimetres, and low and high there in W/m².
-pub struct Place {
+pub struct PairAt {
     pub decimetres: u32,
     pub low: u32,
     pub high: u32,
@@ -19,7 +19,7 @@ pub struct Place {
 
 // The stand-off; or why there is none: the flux is refused, or its high figure is over the limit at the far end of the span (41).
 pub enum StandOff {
-    Is(Place),
+    Is(PairAt),
     Refused(Turned),
     OverLimit,
 }
@@ -32,19 +32,19 @@ fn flux_at(s: Scenario, decimetres: u32) -> Flux
     flux(at_distance(s, 100 * decimetres))
 }
 
-// That distance and the pair there; the zeros of a refusal, which the far end of the span would have had too.
-fn place_at(s: Scenario, decimetres: u32) -> Place
+// A distance and the pair there. A refusal has zeros; from 10 decimetres on none is met where the far end is accepted.
+fn pair_at(s: Scenario, decimetres: u32) -> PairAt
     requires { ⌜ decimetres ≤ 2_000 ⌝ }
-    ensures { λ r. ⌜ shown (Is r) ≡ answered s decimetres ⌝ }
+    ensures { λ r. ⌜ shown (Is r) ≡ shown-at s decimetres ⌝ }
 {
     let f = flux_at(s, decimetres);
     match f {
-        Flux::Is(p) => Place {
+        Flux::Is(p) => PairAt {
             decimetres,
             low: p.low,
             high: p.high,
         },
-        Flux::Refused(_) => Place {
+        Flux::Refused(_) => PairAt {
             decimetres,
             low: 0,
             high: 0,
@@ -53,14 +53,14 @@ fn place_at(s: Scenario, decimetres: u32) -> Place
 }
 
 // From 2,000 decimetres, where the limit is kept, down to 10 as long as it is kept.
-fn nearest(s: Scenario, limit: u32, farthest: Place) -> Place
-    requires { ⌜ shown (Is farthest) ≡ answered s 2_000 ⌝ }
+fn nearest(s: Scenario, limit: u32, farthest: PairAt) -> PairAt
+    requires { ⌜ shown (Is farthest) ≡ shown-at s 2_000 ⌝ }
     requires { ⌜ farthest .high ≤ limit ⌝ }
-    ensures { λ r. ⌜ shown (Is r) ≡ answered s (stand-off s limit) ⌝ }
+    ensures { λ r. ⌜ shown (Is r) ≡ shown-at s (stand-off s limit) ⌝ }
 {
     let mut here = farthest;
     while 10 < here.decimetres {
-        let next = place_at(s, here.decimetres - 1);
+        let next = pair_at(s, here.decimetres - 1);
         if limit < next.high {
             return here;
         }
@@ -80,7 +80,7 @@ pub fn stand_off(s: Scenario, limit: u32) -> StandOff
             if limit < p.high {
                 return StandOff::OverLimit;
             }
-            let farthest = Place {
+            let farthest = PairAt {
                 decimetres: 2_000,
                 low: p.low,
                 high: p.high,

@@ -1,9 +1,10 @@
 -- `ends_of` meets its contract: each case of the flux has its own ends.
 -- Assumes nothing.
 use mathlib.Core.Path.{sym, ap, _∙_}
+use native.Mathlib.Omega.{arith}
 use Rattle.chain.specs.Flux as flux
 use Rattle.chain.specs.Flux.{shown, number-of}
-use Rattle.chain.proofs.Limits.{numbered}
+use Rattle.chain.proofs.Limits.{number-above-0}
 use Rattle.drawing.specs.declared.figures.Ends.the-variants.{Refused}
 use Rattle.drawing.specs.Floats.{float}
 use Rattle.drawing.specs.Figures.{ends, ends-of}
@@ -42,7 +43,7 @@ returns-2 c =
     let f = c .before .before in
     let why = f .f2 .given .0 .0 in
     ap Refused (c .number .ensures)
-    ∙ sym (refused (flux.refused (number-of why)) (numbered why))
+    ∙ sym (refused (flux.refused (number-of why)) (λ e. omega (arith, number-above-0 why, e)))
     ∙ ap ends (sym (ap shown (f .f2 .given .1)) ∙ f .before .before .flux .ensures)
 
 pub ends-of-spec : {M : Type 1} → statement M

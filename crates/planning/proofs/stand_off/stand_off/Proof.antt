@@ -1,14 +1,12 @@
 -- `stand_off` meets its contract: each case of the flux at 2,000 decimetres has its outcome.
 -- Assumes nothing.
-use mathlib.Core.Path.{_≡_, sym, ap, subst, _∙_}
-use Prim.Native.Nat.{ℕ, _≤_, _<_}
-use native.Mathlib.Nat.{lt-of-not-le}
+use mathlib.Core.Path.{sym, ap, _∙_}
 use native.Mathlib.Omega.{arith}
 use Rattle.chain.specs.Flux.{Shown, shown, number-of}
-use Rattle.chain.proofs.Limits.{numbered}
+use Rattle.chain.proofs.Limits.{number-above-0}
 use borrow.Author.Needs.{needs}
-use Rattle.planning.proofs.Places.{placed}
-use Rattle.planning.proofs.Outcomes.{flux-first, over, kept}
+use Rattle.planning.proofs.PairAt.{pair-there}
+use Rattle.planning.proofs.Outcomes.{flux-first, over, kept, over-by, kept-by}
 use Rattle.planning.proofs.stand_off.stand_off.Statement.{statement}
 use Rattle.planning.proofs.stand_off.stand_off.Tie as tie
 
@@ -21,25 +19,16 @@ enum-known-f c = search needs
 enum-known-f-2 : tie.Need-enum-known-f-2
 enum-known-f-2 c = search needs
 
--- what an accepted flux shows
-accepted : {a : Shown} {low high note : ℕ} → record { state = 0; low = low; high = high; note = note } ≡ a → a .state ≡ 0
-accepted e = ap (λ (s : Shown). s .state) (sym e)
-
-high-of : {a : Shown} {low high note : ℕ} → record { state = 0; low = low; high = high; note = note } ≡ a → high ≡ a .high
-high-of e = ap (λ (s : Shown). s .high) e
-
 returns : tie.Need-returns
 returns c =
     let f = c .before .before .before in
     let a = f .before .before .before .args in
-    let far = sym (ap shown (f .f2 .given .1)) ∙ f .before .before .flux-at .ensures in
-    let past : a .limit < f .f2 .given .0 .0 .high = omega arith in
-    sym (over (a .s) (a .limit) (record { accepted = accepted far; high = subst (λ x. a .limit < x) (high-of far) past }))
+    sym (over (a .s) (a .limit) (over-by (a .s) (a .limit) (sym (ap shown (f .f2 .given .1)) ∙ f .before .before .flux-at .ensures) (omega arith)))
 
 nearest-requires : tie.Need-nearest-requires
 nearest-requires c κs =
     let f = c .before .before .before in
-    (placed _ _ _ (sym (ap shown (f .f2 .given .1)) ∙ f .before .before .flux-at .ensures), omega arith)
+    (pair-there _ _ _ (sym (ap shown (f .f2 .given .1)) ∙ f .before .before .flux-at .ensures), omega arith)
 
 returns-2 : tie.Need-returns-2
 returns-2 c =
@@ -47,16 +36,14 @@ returns-2 c =
     let a = f .before .before .before .args in
     let why = f .f .given .0 .0 in
     let number = ap (λ (s : Shown). s .state) (sym (ap shown (f .f .given .1)) ∙ f .before .before .flux-at .ensures) in
-    sym (flux-first (a .s) (a .limit) (number-of why) (lt-of-not-le (λ (l : number-of why ≤ 0). numbered why (omega arith))) (sym number))
+    sym (flux-first (a .s) (a .limit) (number-of why) (number-above-0 why) (sym number))
 
 returns-3 : tie.Need-returns-3
 returns-3 c =
     let f = c .before .before .before .before in
     let a = f .before .before .before .args in
-    let far = sym (ap shown (f .f2 .given .1)) ∙ f .before .before .flux-at .ensures in
-    let within : f .f2 .given .0 .0 .high ≤ a .limit = omega arith in
     c .nearest .ensures
-    ∙ sym (kept (a .s) (a .limit) (record { accepted = accepted far; high = subst (λ x. x ≤ a .limit) (high-of far) within }))
+    ∙ sym (kept (a .s) (a .limit) (kept-by (a .s) (a .limit) (sym (ap shown (f .f2 .given .1)) ∙ f .before .before .flux-at .ensures) (omega arith)))
 
 pub stand-off-spec : {M : Type 1} → statement M
 stand-off-spec =
