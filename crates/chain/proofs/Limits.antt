@@ -36,6 +36,7 @@ between least most n e =
     let t = both (leb least n) (leb n most) e in
     record { low = leb→le least n (t .0); high = leb→le n most (t .1) }
 
+-- A number between its limits is not outside them.
 pub inside : (least most n : ℕ) → least ≤ n → n ≤ most → outside least most n ≡ false
 inside least most n l h = rw (le-leb least n l, le-leb n most h)
 

@@ -13,8 +13,8 @@ use Rattle.planning.specs.declared.scenario.Scenario.{Scenario}
 use Rattle.planning.specs.Scenario.{at-distance}
 
 -- A result after the tests of 11 to 16, 18 and 19, where that of 14 does not refuse.
-abbrev tested : Bool → Bool → Bool → Bool → Bool → Bool → Bool → Shown → Shown
-tested fuel area method face height air flame s =
+abbrev after-tests : Bool → Bool → Bool → Bool → Bool → Bool → Bool → Shown → Shown
+after-tests fuel area method face height air flame s =
     refuse fuel (refused 11)
     (refuse area (refused 12)
     (refuse method (refused 13)
@@ -28,7 +28,7 @@ tested fuel area method face height air flame s =
 same-tests :
     (fuel area method face height air flame : Bool) (s t : Shown)
     → (fuel ≡ false → area ≡ false → method ≡ false → face ≡ false → height ≡ false → air ≡ false → flame ≡ false → s .state ≡ t .state)
-    → (tested fuel area method face height air flame s) .state ≡ (tested fuel area method face height air flame t) .state
+    → (after-tests fuel area method face height air flame s) .state ≡ (after-tests fuel area method face height air flame t) .state
 same-tests true area method face height air flame s t h = refl
 same-tests false true method face height air flame s t h = refl
 same-tests false false true face height air flame s t h = refl
