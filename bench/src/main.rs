@@ -91,9 +91,13 @@ fn main() {
     let ops = std::env::args().nth(2).expect("the path of the compiled program ops");
     let numbers = black_box(ends());
     let at = |n| pair_at(&numbers, n);
-    let sixteenth = |n| {
+    let below_20 = |n| {
         let (low, high) = at(n);
-        (low / 16, high / 16)
+        (low / 128, high / 128)
+    };
+    let from_20 = |n| {
+        let (low, high) = at(n);
+        (20_000_000_000_000 + low / 16, 20_000_000_000_000 + high / 16)
     };
     println!("| operation | Rattle, ns | Rust u128, ns | by | ratio |");
     println!("|---|---|---|---|---|");
@@ -104,7 +108,8 @@ fn main() {
         compared(&program, "root", "Newton", 1_000_000, |n| plain::root_by_newton(at(n))),
         compared(&program, "fifth_root", "bisection", 60_000, |n| plain::fifth_root(at(n))),
         compared(&program, "atan", "series", 150_000, |n| plain::atan(at(n))),
-        compared(&program, "exp_neg", "series", 150_000, |n| plain::exp_neg(sixteenth(n))),
+        compared(&program, "exp_neg", "series", 150_000, |n| plain::exp_neg(below_20(n))),
+        compared(&program, "cold_exp_neg", "a test", 5_000_000, |n| plain::exp_neg(from_20(n))),
     ];
     if agree.contains(&false) {
         std::process::exit(1);

@@ -176,6 +176,9 @@ pub fn exp_neg(y: Pair) -> Answer {
     if 256 * UNIT <= y.1 {
         return Err(63);
     }
+    if 20 * UNIT <= y.0 {
+        return Ok((0, 2_062));
+    }
     let unit = UNIT as u128;
     let (z_low, z_high) = (y.0 as u128 / 256, (y.1 as u128).div_ceil(256));
     let (mut low, mut high) = (unit, unit);

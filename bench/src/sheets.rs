@@ -20,27 +20,38 @@ fn put(sheet: &mut Vec<u8>, size: usize, n: u64) {
     sheet.extend_from_slice(&n.to_be_bytes()[8 - size..]);
 }
 
-/// A sheet with all numbers inside the limits and flames that are high enough. The pools have these methods by turns.
-fn sheet(x: &mut u64, pools: u64, methods: &[u64], first: u64, off_the_floor: bool) -> Vec<u8> {
+/// Sheets of one line of the table. The pools have these methods by turns.
+struct Kind {
+    pools: u64,
+    methods: [u64; 2],
+    off_the_floor: bool,
+    /// Fuels and areas whose optical depth is from 21 on.
+    thick_smoke: bool,
+}
+
+/// A sheet with all numbers inside the limits and flames that are high enough.
+fn sheet(x: &mut u64, kind: &Kind, first: u64) -> Vec<u8> {
+    let pools = kind.pools;
+    let (absorption, area) = if kind.thick_smoke { (300, 4_000) } else { (100, 100) };
     let mut s = Vec::new();
     put(&mut s, 2, pools);
     for _ in 0..pools {
         put(&mut s, 2, between(x, 40, 150));
-        put(&mut s, 2, between(x, 100, 500));
+        put(&mut s, 2, between(x, absorption, 500));
         put(&mut s, 2, between(x, 250, 500));
     }
     put(&mut s, 2, pools);
     for i in 0..pools {
-        put(&mut s, 4, between(x, 100, 50_000));
+        put(&mut s, 4, between(x, area, 50_000));
         put(&mut s, 2, i);
-        put(&mut s, 1, methods[(first + i) as usize % methods.len()]);
+        put(&mut s, 1, kind.methods[(first + i) as usize % 2]);
     }
     put(&mut s, 2, TARGETS);
     for _ in 0..TARGETS {
         put(&mut s, 2, between(x, 0, pools - 1));
         put(&mut s, 4, between(x, 1_000, 200_000));
         put(&mut s, 1, between(x, 1, 3));
-        let height = if off_the_floor { between(x, 0, 25_000) as i64 - 5_000 } else { 0 };
+        let height = if kind.off_the_floor { between(x, 0, 25_000) as i64 - 5_000 } else { 0 };
         put(&mut s, 4, height as u64);
         put(&mut s, 2, between(x, 1, 1_000));
     }
@@ -84,16 +95,19 @@ pub fn table() -> bool {
     println!("| {SHEETS} sheets of {TARGETS} targets | answered | Rattle, µs each | Rust, µs each | times faster |");
     println!("|---|---|---|---|---|");
     let mut agree = true;
-    for (pools, methods, heights, name) in [
-        (64, [1, 2], false, "64 pools, height 0"),
-        (64, [1, 2], true, "64 pools, any height"),
-        (1, [1, 2], false, "1 pool, height 0"),
-        (1, [1, 2], true, "1 pool, any height"),
-        (64, [3, 3], false, "64 smoky pools, height 0"),
-        (64, [3, 3], true, "64 smoky pools, any height"),
+    for (pools, methods, off_the_floor, thick_smoke, name) in [
+        (64, [1, 2], false, false, "64 pools, height 0"),
+        (64, [1, 2], true, false, "64 pools, any height"),
+        (1, [1, 2], false, false, "1 pool, height 0"),
+        (1, [1, 2], true, false, "1 pool, any height"),
+        (64, [3, 3], false, false, "64 smoky pools, height 0"),
+        (64, [3, 3], true, false, "64 smoky pools, any height"),
+        (64, [1, 2], false, true, "64 pools in thick smoke, height 0"),
+        (64, [3, 3], false, true, "64 smoky pools in thick smoke, height 0"),
     ] {
+        let kind = Kind { pools, methods, off_the_floor, thick_smoke };
         let mut x = 88_172_645_463_325_252 + pools;
-        let sheets: Vec<Vec<u8>> = (0..SHEETS).map(|i| sheet(&mut x, pools, &methods, i, heights)).collect();
+        let sheets: Vec<Vec<u8>> = (0..SHEETS).map(|i| sheet(&mut x, &kind, i)).collect();
         agree = compared(name, &sheets) && agree;
     }
     agree

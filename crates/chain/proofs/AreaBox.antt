@@ -11,13 +11,14 @@ use Rattle.pairs.specs.Rounded as R
 use Rattle.pairs.specs.Rounded.{U, up, down, fifth-power-up}
 use Rattle.pairs.specs.Answers.{answers}
 use Rattle.pairs.proofs.Rounding.{up-grows, down-grows}
+use Rattle.pairs.proofs.Kept.{choice-kept}
 use Rattle.chain.specs.declared.enquiry.Enquiry.{Enquiry}
 use Rattle.chain.specs.Chain as chain
 use Rattle.chain.specs.Chain.{diameter, optical-depth, burning, flame-height, emissive-power-1, emissive-power-2, froude-number, flame-height-3, emissive-power-3, in-radii, diameter-of, unabsorbed-of, heat-release-of, burning-rate-of, froude-number-of, flame-1-of, flame-2-of, flame-3-of, flame-of, relative-distance-of}
 use Rattle.chain.proofs.Bounds as B
 use Rattle.chain.proofs.Bounds.{Bound, bound, bounds, root-below}
 use Rattle.chain.proofs.Within.{Held, Within, within}
-use Rattle.chain.proofs.Steps.{choice-kept, diameter-kept, burning-kept, flame-height-kept, emissive-power-1-kept, emissive-power-2-kept, froude-number-kept, flame-height-3-kept, emissive-power-3-kept, in-radii-kept}
+use Rattle.chain.proofs.Steps.{diameter-kept, burning-kept, flame-height-kept, emissive-power-1-kept, emissive-power-2-kept, froude-number-kept, flame-height-3-kept, emissive-power-3-kept, in-radii-kept}
 use Rattle.chain.proofs.Boxes.{known, passing, tests-passed, passed, constant-held, times-over-held, every, each}
 use Rattle.chain.proofs.Sweep.{sweep}
 use Rattle.chain.proofs.Exponential.{spread, exp-bound, shallowest, deepest, burnt, Depth, unabsorbed}

@@ -4,7 +4,7 @@ use mathlib.Core.Bool.{Bool, true, false, _&&_}
 use Prim.Native.Nat.{ℕ, zero, suc, _+_, _*_, _-_, _/_, _^_, max}
 use lib.Dec.{leb, ltb}
 use Rattle.pairs.specs.Arithmetic.{Arithmetic}
-use Rattle.pairs.specs.Rounded.{U, down, up, fifth-power-up, fifth-power-down}
+use Rattle.pairs.specs.Rounded.{U, cold-pair, down, up, fifth-power-up, fifth-power-down}
 use Rattle.pairs.proofs.FifthPower.{U⁴, slope, loss}
 use Rattle.chain.specs.Chain.{most-exposed}
 use Rattle.chain.proofs.Hypotenuse.{slack}
@@ -110,6 +110,20 @@ at-most-a-third b = spanning (leb (b .most) (up (U * U) (3 * U))) b
 unfoldable pub below-256 : Bound → Bound
 below-256 b = spanning (ltb (b .most) (256 * U)) b
 
+-- Where y stays below 20, x; else x or the cold pair.
+unfoldable pub unless-cold : Bound → Bound → Bound
+unless-cold y x =
+    elim (ltb (y .most) (20 * U)) [
+      | true ↦ spanning (y .safe) x
+      | false ↦
+          record {
+            least = 0;
+            most = max (x .most) (cold-pair .high);
+            width = max (x .width) (cold-pair .high);
+            safe = y .safe && x .safe;
+          }
+    ]
+
 abbrev pub bounds : Arithmetic
 bounds =
     record {
@@ -128,6 +142,7 @@ bounds =
       at-most-one = at-most-one;
       at-most-a-third = at-most-a-third;
       below-256 = below-256;
+      unless-cold = unless-cold;
     }
 
 -- The tilted face: the ends of the root, and a width that is of use near 0 too.

@@ -6,13 +6,14 @@ use lib.Dec.{eqb}
 use lib.Ieee.Fits.{and-l, and-r}
 use Rattle.pairs.specs.Figures.{Figures}
 use Rattle.pairs.specs.Answers.{answers}
+use Rattle.pairs.proofs.Kept.{choice-kept}
 use Rattle.pairs.proofs.Agreement.{Agrees, itself, agreement}
 use Rattle.chain.specs.Chain.{most-exposed, by-face}
 use Rattle.chain.proofs.Bounds as B
 use Rattle.chain.proofs.Bounds.{Bound, bounds}
 use Rattle.chain.proofs.Inside.{Inside, most-exposed-inside}
 use Rattle.chain.proofs.Within.{Held, Within, within}
-use Rattle.chain.proofs.Steps.{choice-kept, most-exposed-kept}
+use Rattle.chain.proofs.Steps.{most-exposed-kept}
 
 -- An answer inside a bound agrees with its own pair.
 as-rounded : {f : Figures} {b : Bound} → Held f b → Agrees f (f .pair)

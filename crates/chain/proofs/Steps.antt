@@ -6,14 +6,9 @@ use lib.Dec.{eqb}
 use lib.IntN.{natAbs}
 use lib.Signed.{nonNeg}
 use Rattle.pairs.specs.Arithmetic.{Arithmetic}
-use Rattle.pairs.proofs.Kept.{Kept, one-kept, atan-kept, pi-kept, exp-neg-kept, ln-ten-kept}
+use Rattle.pairs.proofs.Kept.{choice-kept, Kept, one-kept, atan-kept, pi-kept, exp-neg-kept, ln-ten-kept}
 use Rattle.chain.specs.declared.enquiry.Enquiry.{Enquiry}
 use Rattle.chain.specs.Chain.{Flame, diameter, radius, optical-depth, unabsorbed, burning, flame-height, emissive-power-1, radiant-fraction, flame-surface, emissive-power-2, froude-number, equal-factors, power-61-hundredths, flame-height-3, unobscured, emissive-power-3, in-radii, diameter-of, unabsorbed-of, heat-release-of, burning-rate-of, froude-number-of, flame-1-of, flame-2-of, flame-3-of, flame-of, flame-height-of, emissive-power-of, relative-height-of, relative-distance-of, relative-elevation-of, x, g, r, u, v, tilt, height-angle, vertical-ratio, vertical, horizontal-ratio, horizontal, most-exposed, by-face, factor, vertical-above, horizontal-above, vertical-below, horizontal-below, factor-at, transmitted, configuration-factor-of, clear-flux, radiant-flux}
-
--- The same choice on both sides.
-pub choice-kept : {X Y : Type 0} (R : X → Y → Type 0) (b : Bool) {p q : X} {c d : Y} → R p c → R q d → R (elim b [ true ↦ p | false ↦ q ]) (elim b [ true ↦ c | false ↦ d ])
-choice-kept R true h k = h
-choice-kept R false h k = k
 
 -- By equal factors, wherever one factor more keeps it.
 pub equal-factors-kept :

@@ -10,8 +10,8 @@ use Rattle.pairs.specs.Figures.{Figures}
 use Rattle.pairs.specs.Answers.{answers}
 use Rattle.pairs.specs.Answers as answer
 use Rattle.pairs.specs.Series.{pi}
+use Rattle.pairs.proofs.Kept.{choice-kept}
 use Rattle.chain.specs.Chain.{x, g, r, u, v, tilt, height-angle, vertical-ratio, vertical, horizontal-ratio, horizontal, most-exposed, by-face, vertical-above, horizontal-above, vertical-below, horizontal-below, factor-at}
-use Rattle.chain.proofs.Steps.{choice-kept}
 use Rattle.exact.specs.Fraction.{Fraction, _⊑_, _⊗_, power}
 use Rattle.exact.specs.Depth as depth
 use Rattle.exact.specs.Depth.{Bracket, exact}

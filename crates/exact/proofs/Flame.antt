@@ -9,9 +9,10 @@ use lib.IntN.{natAbs}
 use Rattle.pairs.specs.Figures.{Figures}
 use Rattle.pairs.specs.Answers.{answers}
 use Rattle.pairs.specs.Series.{pi}
+use Rattle.pairs.proofs.Kept.{choice-kept}
 use Rattle.chain.specs.declared.enquiry.Enquiry.{Enquiry}
 use Rattle.chain.specs.Chain.{diameter, radius, optical-depth, unabsorbed, burning, flame-height, emissive-power-1, radiant-fraction, flame-surface, emissive-power-2, froude-number, power-61-hundredths, flame-height-3, unobscured, emissive-power-3, in-radii, diameter-of, unabsorbed-of, heat-release-of, burning-rate-of, froude-number-of, flame-1-of, flame-2-of, flame-3-of, flame-of, flame-height-of, emissive-power-of, relative-height-of, relative-elevation-of, relative-distance-of}
-use Rattle.chain.proofs.Steps.{choice-kept, equal-factors-kept, Both}
+use Rattle.chain.proofs.Steps.{equal-factors-kept, Both}
 use Rattle.exact.specs.Fraction.{_⊑_, whole, _⊗_, _⊘_, power}
 use Rattle.exact.specs.Depth as depth
 use Rattle.exact.specs.Depth.{Bracket, exact}

@@ -2,18 +2,20 @@
 -- two overlap. Each operation keeps that, so that no side condition of the rounded chain is carried. Assumes nothing.
 use mathlib.Core.Path.{_≡_}
 use Prim.Native.Nat.{ℕ, zero, _*_, _/_, _<_}
-use lib.Dec.{eqb}
+use lib.Dec.{T, eqb}
 use Rattle.pairs.specs.declared.answer.Pair.{Pair}
-use Rattle.pairs.specs.Figures.{Figures, after}
+use Rattle.pairs.specs.Figures.{Figures, given, after}
 use Rattle.pairs.specs.Rounded as rounded
-use Rattle.pairs.specs.Rounded.{U}
+use Rattle.pairs.specs.Rounded.{U, is-cold, cold-pair}
 use Rattle.pairs.specs.Answers as answers
 use Rattle.pairs.specs.Answers.{admit, fitting}
+use Rattle.pairs.proofs.Search.{by-test}
 use Rattle.pairs.proofs.Agreement.{above-0}
+use Rattle.exact.specs.Fraction.{_⊑_}
 use Rattle.exact.specs.Depth as depth
 use Rattle.exact.specs.Depth.{Bracket}
-use Rattle.exact.proofs.Overlap.{Overlap, low-only, high-only-overlap, constant-overlap, sum-overlap, difference-overlap, product-overlap, quotient-overlap, times-overlap, over-overlap, root-overlap, fifth-root-overlap}
-use Rattle.exact.proofs.Sound.{Sound, Positive, constant-sound, sum-sound, difference-sound, product-sound, quotient-sound, times-sound, over-sound, root-sound}
+use Rattle.exact.proofs.Overlap.{Overlap, trillionths, low-only, high-only-overlap, constant-overlap, sum-overlap, difference-overlap, product-overlap, quotient-overlap, times-overlap, over-overlap, root-overlap, fifth-root-overlap, cold-overlap, warm-overlap}
+use Rattle.exact.proofs.Sound.{Sound, Positive, constant-sound, sum-sound, difference-sound, product-sound, quotient-sound, times-sound, over-sound, root-sound, unless-cold-sound}
 use Rattle.exact.proofs.Passing.{Passing, after-passing, refuse-passing, admit-passing, fitting-passing}
 
 pub record Meets (f : Figures) (x : Bracket) : Type 0 where
@@ -120,3 +122,19 @@ module _ {a : Figures} {x : Bracket} (h : Meets a x) where
   pub high-only-passing : Passing (λ r. Overlap r (low-only x)) (answers.high-only a)
   unfolding answers.high-only answers.high-only-of
   high-only-passing = after-untested a (λ u. high-only-overlap (h .overlap u))
+
+-- Where y is cold, the exact low end has to be small enough.
+pub unless-cold-meets :
+    {a f : Figures} {y x : Bracket} → Meets a y → Meets f x → (a .number ≡ 0 → T (is-cold (a .pair)) → x .low ⊑ trillionths (cold-pair .high))
+    → Meets (answers.unless-cold a f) (depth.unless-cold y x)
+unfolding answers.unless-cold
+unless-cold-meets {a} {f} {y} {x} _ h small =
+    record {
+      sound = unless-cold-sound y (h .sound);
+      overlap =
+          after-passing Q a _
+          (λ u. by-test (Passing Q) (is-cold (a .pair)) (given cold-pair) f (λ t _. cold-overlap y x (small u t)) (λ _ z. warm-overlap y (h .overlap z)));
+    }
+  where
+    Q : Pair → Type 0
+    Q r = Overlap r (depth.unless-cold y x)

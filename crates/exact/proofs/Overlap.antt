@@ -8,7 +8,7 @@ use native.Mathlib.Omega.{arith}
 use lib.Dec.{lit<}
 use Rattle.pairs.specs.declared.answer.Pair.{Pair}
 use Rattle.pairs.specs.Rounded as rounded
-use Rattle.pairs.specs.Rounded.{U, up, down, root-down, root-up, fifth-power-up, fifth-power-down}
+use Rattle.pairs.specs.Rounded.{U, cold-pair, up, down, root-down, root-up, fifth-power-up, fifth-power-down}
 use Rattle.pairs.proofs.Rounding.{up-covers, down-within}
 use Rattle.pairs.proofs.Search.{root-down-passes, root-up-passes, fifth-root-down-passes, fifth-root-up-passes}
 use Rattle.exact.specs.Fraction.{Fraction, _⊑_, whole, _⊕_, _⊗_, _⊘_, power}
@@ -230,6 +230,15 @@ low-only x = record { low = x .low; high = whole 0; defined = x .defined }
 pub high-only-overlap : {p : Pair} {x : Bracket} → Overlap p x → Overlap (rounded.high-only p) (low-only x)
 unfolding rounded.high-only low-only
 high-only-overlap h = record { low = trillionths-0; high = h .high }
+
+-- ---- exp(-y): at depth n what stands below 20 stays from 20 on, where the rounded one is the cold pair
+pub warm-overlap : {p : Pair} {x : Bracket} (y : Bracket) → Overlap p x → Overlap p (depth.unless-cold y x)
+unfolding depth.unless-cold
+warm-overlap y h = record { low = h .low; high = h .high }
+
+pub cold-overlap : (y x : Bracket) → x .low ⊑ trillionths (cold-pair .high) → Overlap cold-pair (depth.unless-cold y x)
+unfolding depth.unless-cold
+cold-overlap y x h = record { low = trillionths-0 ⟫ 0-least; high = h }
 
 pub wider-overlap : {p : Pair} {x y : Bracket} → y .low ⊑ x .low → x .high ⊑ y .high → Overlap p x → Overlap p y
 wider-overlap l g h = record { low = h .low ⟫ g; high = l ⟫ h .high }

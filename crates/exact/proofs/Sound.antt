@@ -6,7 +6,7 @@ use Prim.Native.Nat.{ℕ, zero, suc, _<_}
 use native.Mathlib.Nat.{le-refl}
 use borrow.Author.Tests.{lt-ltb}
 use Rattle.exact.specs.Fraction.{Fraction, _⊑_, above-0, whole, _⊕_, _⊗_, _⊘_}
-use Rattle.exact.specs.Depth.{Bracket, divides, constant, sum, difference, product, quotient, times, over, root, high-only}
+use Rattle.exact.specs.Depth.{Bracket, divides, constant, sum, difference, product, quotient, times, over, root, high-only, unless-cold}
 use Rattle.exact.proofs.Order.{_⟫_, ⊑-refl, ⊕-mono, ⊖-mono, ⊗-mono, ⊘-mono, 0-least, over-mono, above-from, power-cancel}
 use Rattle.exact.proofs.Root.{root-below-power, root-above-power}
 
@@ -68,6 +68,10 @@ root-sound k n {x} h =
 pub high-only-sound : {x : Bracket} → Sound x → Sound (high-only x)
 unfolding high-only
 high-only-sound h = record { defined = h .defined; ordered = 0-least }
+
+pub unless-cold-sound : {x : Bracket} (y : Bracket) → Sound x → Sound (unless-cold y x)
+unfolding unless-cold
+unless-cold-sound y h = record { defined = h .defined; ordered = h .ordered }
 
 -- ---- one end of a bracket: sums, products and quotients by a whole number go end by end
 pub record End (end : Bracket → Fraction) : Type 0 where

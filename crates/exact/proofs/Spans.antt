@@ -2,7 +2,7 @@
 -- No test is made at depth n; what the rounded chain tested bounds the exact one by overlap. Assumes nothing.
 use mathlib.Core.Path.{_≡_}
 use mathlib.Core.Bool.{Bool}
-use Prim.Native.Nat.{_*_}
+use Prim.Native.Nat.{_*_, _<_}
 use native.Mathlib.Nat.{le-of-lt}
 use lib.Dec.{T, lit<, lit≤, leb, ltb}
 use Rattle.pairs.specs.declared.answer.Pair.{Pair}
@@ -28,7 +28,7 @@ third-below-half : trillionths (up (U * U) (3 * U)) ⊑ half
 unfolding trillionths half up
 third-below-half = record { cross = lit≤ tt }
 
-256-U-is-256 : trillionths (256 * U) ⊑ whole 256
+pub 256-U-is-256 : trillionths (256 * U) ⊑ whole 256
 unfolding trillionths whole
 256-U-is-256 = record { cross = lit≤ tt }
 
@@ -65,6 +65,10 @@ module _ {a : Figures} {x : Bracket} (h : Meets a x) where
   pub below-256-meets : Meets (answers.below-256 a) x
   unfolding answers.below-256 answers.below-256-of
   below-256-meets = tested-meets (leb (256 * U) (a .pair .high))
+
+  pub below-256-high : (answers.below-256 a) .number ≡ 0 → (answers.below-256 a) .pair .high < 256 * U
+  unfolding answers.below-256 answers.below-256-of
+  below-256-high = tested-passing (λ r. r .high < 256 * U) (leb (256 * U) (a .pair .high)) (λ _ t. not-reached t)
 
   pub below-256-bound : (answers.below-256 a) .number ≡ 0 → x .low ⊑ whole 256
   unfolding answers.below-256 answers.below-256-of

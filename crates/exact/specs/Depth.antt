@@ -68,6 +68,10 @@ high-only x = record { low = whole 0; high = x .high; defined = x .defined }
 abbrev pub untested : Bracket → Bracket
 untested x = x
 
+-- Request 8: "The exact chain is left as it is."
+unfoldable pub unless-cold : Bracket → Bracket → Bracket
+unless-cold y x = x
+
 -- The exact arithmetic at depth n: "2n and 2n+1 terms for 16 and 17 (in H: 2n, and p with index 2n+1)".
 abbrev pub exact : ℕ → Arithmetic
 exact n =
@@ -87,4 +91,5 @@ exact n =
       at-most-one = untested;
       at-most-a-third = untested;
       below-256 = untested;
+      unless-cold = unless-cold;
     }

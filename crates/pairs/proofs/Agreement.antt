@@ -2,18 +2,18 @@
 -- An operation that gives had both its parts given, and met no test. Assumes nothing.
 use mathlib.Core.Path.{_≡_, refl, sym, ap, ap₂, subst, _∙_}
 use mathlib.Core.Bool.{Bool, true, false}
-use Prim.Native.Nat.{ℕ, zero, suc, _*_, _^_, _<_}
+use Prim.Native.Nat.{ℕ, zero, suc, _*_, _^_, _<_, zero-le}
 use native.Mathlib.Nat.{not-le-of-lt, zero-lt-suc}
 use native.Mathlib.Omega.{arith}
 use lib.Dec.{T, leb, ltb, eqb, leb→le}
 use Rattle.pairs.specs.declared.answer.Pair.{Pair}
 use Rattle.pairs.specs.Rounded as R
-use Rattle.pairs.specs.Rounded.{U, rounded}
+use Rattle.pairs.specs.Rounded.{U, rounded, is-cold, cold-pair}
 use Rattle.pairs.specs.Figures.{Figures, given, refused, refuse, after}
 use Rattle.pairs.specs.Answers as A
 use Rattle.pairs.specs.Answers.{answers, admit, fitting}
 use Rattle.pairs.proofs.Tests.{past-test}
-use Rattle.pairs.proofs.Kept.{Kept}
+use Rattle.pairs.proofs.Kept.{Kept, choice-kept}
 use Rattle.pairs.proofs.Ordered as O
 use Rattle.pairs.proofs.Ordered.{Ordered}
 
@@ -139,6 +139,14 @@ over-agrees {a} h n =
     (admit-same (a .pair) tail (tested-same no-divisor 61 fits (fitting-same (R.over (a .pair) n))))
     (λ z o. O.over-ordered o n (above-0 n (refuse-passed no-divisor 61 fits (past-admit (a .pair) tail z) .0)))
 
+-- The cold pair on both sides, or x.
+unless-cold-agrees : {a x : Figures} {p q : Pair} → Agrees a p → Agrees x q → Agrees (A.unless-cold a x) (R.unless-cold p q)
+unfolding A.unless-cold R.unless-cold
+unless-cold-agrees {a} {x} {p} {q} h k =
+    let cold : Agrees (given cold-pair) cold-pair = record { same = λ _. refl; ordered = λ _. record { ends = zero-le } } in
+    let chosen = choice-kept Agrees (is-cold (a .pair)) cold k in
+    one-part _ (λ y. R.unless-cold y q) h (chosen .same) (λ z _. subst Ordered (chosen .same z) (chosen .ordered z))
+
 -- An operation that tests 61 and 64 and nothing else, on one pair and on two.
 one-agrees : {a : Figures} {p : Pair} (op : Pair → Pair) → (Ordered (a .pair) → Ordered (op (a .pair))) → Agrees a p → Agrees (after a (admit (a .pair) (fitting (op (a .pair))))) (op p)
 one-agrees {a} op ord h = one-part (admit (a .pair) (fitting (op (a .pair)))) op h (admit-same (a .pair) _ (fitting-same (op (a .pair)))) (λ z. ord)
@@ -166,4 +174,5 @@ agreement =
       at-most-one = λ {a} {b} h. let-through (ltb U (a .pair .high)) h;
       at-most-a-third = λ {a} {b} h. let-through (ltb (R.up (U * U) (3 * U)) (a .pair .high)) h;
       below-256 = λ {a} {b} h. let-through (leb (256 * U) (a .pair .high)) h;
+      unless-cold = unless-cold-agrees;
     }

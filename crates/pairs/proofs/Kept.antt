@@ -1,9 +1,15 @@
 -- A relation between two arithmetics that each operation keeps is kept by every series.
 -- By a walk over the definitions, once for all relations. Assumes nothing.
 use mathlib.Core.Path.{_≡_, subst}
+use mathlib.Core.Bool.{Bool, true, false}
 use Prim.Native.Nat.{ℕ, zero, suc, _+_, _*_}
 use Rattle.pairs.specs.Arithmetic.{Arithmetic}
-use Rattle.pairs.specs.Series.{none, one, plus-terms, minus-terms, alternating, power, arc-term, arc, half-angle, atan, pi, exp-term, squared, exp-neg, total, h-of, h-series, ln-ten}
+use Rattle.pairs.specs.Series.{none, one, plus-terms, minus-terms, alternating, power, arc-term, arc, half-angle, atan, pi, exp-term, squared, exp-series, exp-neg, total, h-of, h-series, ln-ten}
+
+-- The same choice on both sides.
+pub choice-kept : {X Y : Type 0} (R : X → Y → Type 0) (b : Bool) {p q : X} {c d : Y} → R p c → R q d → R (elim b [ true ↦ p | false ↦ q ]) (elim b [ true ↦ c | false ↦ d ])
+choice-kept R true h k = h
+choice-kept R false h k = k
 
 pub record Kept (A B : Arithmetic) (R : A .Carrier → B .Carrier → Type 0) : Type 0 where
   pub same-terms : A .pairs-of-terms ≡ B .pairs-of-terms
@@ -20,6 +26,7 @@ pub record Kept (A B : Arithmetic) (R : A .Carrier → B .Carrier → Type 0) : 
   pub at-most-one : {a : A .Carrier} {b : B .Carrier} → R a b → R (A .at-most-one a) (B .at-most-one b)
   pub at-most-a-third : {a : A .Carrier} {b : B .Carrier} → R a b → R (A .at-most-a-third a) (B .at-most-a-third b)
   pub below-256 : {a : A .Carrier} {b : B .Carrier} → R a b → R (A .below-256 a) (B .below-256 b)
+  pub unless-cold : {a c : A .Carrier} {b d : B .Carrier} → R a b → R c d → R (A .unless-cold a c) (B .unless-cold b d)
 
 module _ {A B : Arithmetic} {R : A .Carrier → B .Carrier → Type 0} (K : Kept A B R) where
   pub none-kept : R (none A) (none B)
@@ -89,9 +96,13 @@ module _ {A B : Arithmetic} {R : A .Carrier → B .Carrier → Type 0} (K : Kept
   squared-kept zero h = h
   squared-kept (suc n) h = squared-kept n (K .product h h)
 
+  exp-series-kept : {y : A .Carrier} {b : B .Carrier} → R y b → R (exp-series A y) (exp-series B b)
+  unfolding exp-series
+  exp-series-kept h = squared-kept 8 (alternating-kept _ _ (exp-term-kept (K .over h 256)))
+
   pub exp-neg-kept : {y : A .Carrier} {b : B .Carrier} → R y b → R (exp-neg A y) (exp-neg B b)
   unfolding exp-neg
-  exp-neg-kept h = squared-kept 8 (alternating-kept _ _ (exp-term-kept (K .over (K .below-256 h) 256)))
+  exp-neg-kept h = K .unless-cold (K .below-256 h) (exp-series-kept (K .below-256 h))
 
   pub h-of-kept : {t : A .Carrier} {b : B .Carrier} → R t b → R (h-of A t) (h-of B b)
   unfolding h-of

@@ -9,25 +9,16 @@ use Rattle.pairs.specs.Rounded.{U}
 use Rattle.pairs.specs.Figures.{refused}
 use Rattle.pairs.specs.Answers as A
 use Rattle.pairs.specs.Answers.{answers, arc-of, h-series-of, exp-neg-of}
-use Rattle.pairs.specs.Series.{plus-terms, alternating, power, arc-term, arc, half-angle, atan, exp-term, squared, exp-neg, total, h-of, h-series}
+use Rattle.pairs.specs.Series.{plus-terms, alternating, power, arc-term, arc, half-angle, atan, exp-neg, total, h-of, h-series}
 
 module _ (n : ℕ) where
   arc-terms-refused : alternating answers (arc-term answers (refused (suc n))) ≡ refused (suc n)
   unfolding alternating plus-terms arc-term power A.constant A.fitting R.constant A.sum A.difference A.over
   arc-terms-refused = refl
 
-  exp-terms-refused : alternating answers (exp-term answers (refused (suc n))) ≡ refused (suc n)
-  unfolding alternating plus-terms exp-term A.constant A.fitting R.constant A.sum A.sum-of R.sum A.difference A.product A.over
-  exp-terms-refused = refl
-
   h-refused : h-of answers (refused (suc n)) ≡ refused (suc n)
   unfolding h-of total arc-term power A.constant A.fitting R.constant A.sum A.over
   h-refused = refl
-
-  squared-refused : (k : ℕ) → squared answers k (refused (suc n)) ≡ refused (suc n)
-  unfolding squared A.product
-  squared-refused zero = refl
-  squared-refused (suc k) = squared-refused k
 
   pub arc-refused : arc answers (refused (suc n)) ≡ refused (suc n)
   unfolding arc A.at-most-one
@@ -38,8 +29,8 @@ module _ (n : ℕ) where
   atan-refused = rw arc-refused
 
   pub exp-refused : exp-neg answers (refused (suc n)) ≡ refused (suc n)
-  unfolding exp-neg A.below-256 A.over
-  exp-refused = rw exp-terms-refused (squared-refused 8)
+  unfolding exp-neg A.below-256 A.unless-cold
+  exp-refused = refl
 
 -- ---- arc
 module _ (t : Pair) where
@@ -62,9 +53,9 @@ module _ (t : Pair) where
 
   -- ---- exp
   pub exp-61 : t .high < t .low → refused 61 ≡ exp-neg-of t
-  unfolding exp-neg A.below-256 A.below-256-of A.over
-  exp-61 h = rw (lt-ltb (t .high) (t .low) h, exp-terms-refused 60) (sym (squared-refused 60 8))
+  unfolding exp-neg A.below-256 A.below-256-of A.unless-cold
+  exp-61 h = rw (lt-ltb (t .high) (t .low) h)
 
   pub exp-63 : t .low ≤ t .high → 256 * U ≤ t .high → refused 63 ≡ exp-neg-of t
-  unfolding exp-neg A.below-256 A.below-256-of A.over
-  exp-63 o h = rw (le-ltb (t .high) (t .low) o, le-leb (256 * U) (t .high) h, exp-terms-refused 62) (sym (squared-refused 62 8))
+  unfolding exp-neg A.below-256 A.below-256-of A.unless-cold
+  exp-63 o h = rw (le-ltb (t .high) (t .low) o, le-leb (256 * U) (t .high) h)

@@ -1,10 +1,11 @@
 -- Document 01, "One pair operation" under "Turned back": what each public operation answers, on all inputs.
 use Prim.Native.Nat.{ℕ, _*_, _^_}
+use mathlib.Core.Bool.{true, false}
 use lib.Dec.{leb, ltb, eqb}
 use Rattle.pairs.specs.declared.answer.Pair.{Pair}
 use Rattle.pairs.specs.Arithmetic.{Arithmetic}
 use Rattle.pairs.specs.Rounded as rounded
-use Rattle.pairs.specs.Rounded.{U}
+use Rattle.pairs.specs.Rounded.{U, is-cold, cold-pair}
 use Rattle.pairs.specs.Figures.{Figures, given, refused, refuse, after}
 use Rattle.pairs.specs.Series as series
 
@@ -103,6 +104,10 @@ at-most-a-third a = on-one at-most-a-third-of a
 unfoldable pub below-256 : Figures → Figures
 below-256 a = on-one below-256-of a
 
+-- Request 8: "and neither 61 nor 63 applies". Where y is cold, no step of the series x is taken, so none refuses.
+unfoldable pub unless-cold : Figures → Figures → Figures
+unless-cold a x = after a (elim (is-cold (a .pair)) [ true ↦ given cold-pair | false ↦ x ])
+
 -- The arithmetic of answers: a pair with ends below 2^64, or the refusal that stays.
 abbrev pub answers : Arithmetic
 answers =
@@ -122,6 +127,7 @@ answers =
       at-most-one = at-most-one;
       at-most-a-third = at-most-a-third;
       below-256 = below-256;
+      unless-cold = unless-cold;
     }
 
 -- ---- the series on a pair, and the constants

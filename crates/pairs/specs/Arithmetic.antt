@@ -22,3 +22,5 @@ pub record Arithmetic : Type 1 where
   pub at-most-one : Carrier → Carrier
   pub at-most-a-third : Carrier → Carrier
   pub below-256 : Carrier → Carrier
+  -- Request 8: the second, unless the first is 20 or more, where exp(-y) is next to nothing. At depth n always the second.
+  pub unless-cold : Carrier → Carrier → Carrier

@@ -1,5 +1,6 @@
 -- Document 01, "Pairs of trillionths": the operations on ends of any size.
 use Prim.Native.Nat.{ℕ, _+_, _*_, _-_, _/_}
+use mathlib.Core.Bool.{Bool, true, false}
 use lib.Dec.{leb}
 use Rattle.pairs.specs.declared.answer.Pair.{Pair}
 use Rattle.pairs.specs.Search.{greatest, least}
@@ -81,6 +82,16 @@ high-only p = ends 0 (p .high)
 abbrev pub untested : Pair → Pair
 untested p = p
 
+-- Request 8: "Where y's low end is 20 or more and neither 61 nor 63 applies, exp(-y) shall be the pair [0, 2,062 trillionths]."
+unfoldable pub is-cold : Pair → Bool
+is-cold y = leb (20 * U) (y .low)
+
+abbrev pub cold-pair : Pair
+cold-pair = ends 0 2_062
+
+unfoldable pub unless-cold : Pair → Pair → Pair
+unless-cold y x = elim (is-cold y) [ true ↦ cold-pair | false ↦ x ]
+
 -- The arithmetic of rounded pairs: 16 and 17 terms, no test.
 abbrev pub rounded : Arithmetic
 rounded =
@@ -100,4 +111,5 @@ rounded =
       at-most-one = untested;
       at-most-a-third = untested;
       below-256 = untested;
+      unless-cold = unless-cold;
     }

@@ -61,8 +61,12 @@ module _ (A : Arithmetic) where
   squared zero x = x
   squared (suc n) x = squared n (A .product x x)
 
+  unfoldable pub exp-series : A .Carrier → A .Carrier
+  exp-series y = squared 8 (alternating (exp-term (A .over y 256)))
+
+  -- Request 8: "Where y's low end is 20 or more and neither 61 nor 63 applies, exp(-y) shall be the pair [0, 2,062 trillionths]."
   unfoldable pub exp-neg : A .Carrier → A .Carrier
-  exp-neg y = squared 8 (alternating (exp-term (A .over (A .below-256 y) 256)))
+  exp-neg y = let tested = A .below-256 y in A .unless-cold tested (exp-series tested)
 
   -- "H(t): sum of arc's terms, all plus: 16 for the low end; for the high end 16 plus the whole power p17."
   unfoldable pub total : (ℕ → A .Carrier) → ℕ → A .Carrier

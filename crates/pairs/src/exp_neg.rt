@@ -1,4 +1,4 @@
-// exp(-y): a series in y over 256, squared eight times.
+// exp(-y): a series in y over 256, squared eight times; next to nothing from 20 on.
 use super::answer::Answer;
 use super::answer::Pair;
 use super::difference::less;
@@ -64,6 +64,12 @@ pub fn exp_neg(y: Pair) -> Answer
     }
     if 256_000_000_000_000 <= y.high {
         return Answer::OutOfSpan;
+    }
+    if 20_000_000_000_000 <= y.low {
+        return Answer::Is(Pair {
+            low: 0,
+            high: 2_062,
+        });
     }
     let z = Pair {
         low: y.low / 256,

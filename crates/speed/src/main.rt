@@ -17,6 +17,7 @@ enum Operation {
     FifthRoot,
     Atan,
     ExpNeg,
+    ColdExpNeg,
 }
 
 // The check sum with both ends of an answer, the high end twice; 1 more for a refusal.
@@ -30,11 +31,19 @@ fn with_answer(total: u64, a: Answer) -> u64 {
     )
 }
 
-// A sixteenth of a pair, which lies below 256.
-fn sixteenth(p: Pair) -> Pair {
+// A 128th of a pair, which lies below 20.
+fn below_20(p: Pair) -> Pair {
     Pair {
-        low: p.low / 16,
-        high: p.high / 16,
+        low: p.low / 128,
+        high: p.high / 128,
+    }
+}
+
+// 20 and a sixteenth of a pair, which lies below 161.
+fn from_20(p: Pair) -> Pair {
+    Pair {
+        low: 20_000_000_000_000 + p.low / 16,
+        high: 20_000_000_000_000 + p.high / 16,
     }
 }
 
@@ -45,7 +54,8 @@ fn answer_of(o: Operation, p: Pair, q: Pair) -> Answer {
         Operation::Root => pairs::root::root(p),
         Operation::FifthRoot => pairs::fifth_root::fifth_root(p),
         Operation::Atan => pairs::atan::atan(p),
-        Operation::ExpNeg => pairs::exp_neg::exp_neg(sixteenth(p)),
+        Operation::ExpNeg => pairs::exp_neg::exp_neg(below_20(p)),
+        Operation::ColdExpNeg => pairs::exp_neg::exp_neg(from_20(p)),
     }
 }
 
@@ -62,7 +72,7 @@ fn check_sum(o: Operation, count: u64) -> u64 {
     total
 }
 
-// The operation of this name; exp_neg for any other.
+// The operation of this name; a cold exp_neg for any other.
 fn named(name: &[u8]) -> Operation {
     if same(name, b"product") {
         return Operation::Product;
@@ -79,7 +89,10 @@ fn named(name: &[u8]) -> Operation {
     if same(name, b"atan") {
         return Operation::Atan;
     }
-    Operation::ExpNeg
+    if same(name, b"exp_neg") {
+        return Operation::ExpNeg;
+    }
+    Operation::ColdExpNeg
 }
 
 // The number that a byte appended to its decimal digits makes. A byte that is no digit is passed over, and a number of 17 digits stays.
@@ -118,6 +131,7 @@ fn print_each() {
     print_sum(Operation::FifthRoot, 1000);
     print_sum(Operation::Atan, 1000);
     print_sum(Operation::ExpNeg, 1000);
+    print_sum(Operation::ColdExpNeg, 1000);
 }
 
 // How many times: the second argument.

@@ -1,16 +1,16 @@
--- `exp_neg` meets its contract: 61, then 63, then the series, of which no step is refused, and eight squares.
+-- `exp_neg` meets its contract: 61, then 63, then the cold pair, then the series, of which no step is refused, and eight squares.
 -- The loop holds what is left of the squares. Assumes nothing.
 use mathlib.Core.Path.{_≡_, refl, sym, ap, subst, _∙_}
 use Prim.Native.Nat.{ℕ, suc, _+_, _*_, _-_, _/_, _^_, _≤_, _<_}
 use native.Mathlib.Omega.{arith}
-use borrow.Author.Tests.{le-ltb, lt-leb}
+use borrow.Author.Tests.{le-ltb, le-leb, lt-leb}
 use Rattle.pairs.specs.declared.answer.Pair.{Pair}
 use Rattle.pairs.specs.Rounded as R
-use Rattle.pairs.specs.Rounded.{U, rounded, ends, up}
+use Rattle.pairs.specs.Rounded.{U, rounded, ends, up, is-cold, cold-pair}
 use Rattle.pairs.specs.Figures.{Figures, figures, given}
 use Rattle.pairs.specs.Answers as A
 use Rattle.pairs.specs.Answers.{answers, exp-neg-of}
-use Rattle.pairs.specs.Series.{alternating, exp-term, squared, exp-neg}
+use Rattle.pairs.specs.Series.{alternating, exp-term, squared, exp-series, exp-neg}
 use Rattle.pairs.proofs.Turned.{over-turned}
 use Rattle.pairs.proofs.Terms.{Within, exp-given}
 use Rattle.pairs.proofs.Turns.{over-is}
@@ -18,6 +18,19 @@ use Rattle.pairs.proofs.Refusals.{exp-61, exp-63}
 use borrow.Author.Needs.{needs}
 use Rattle.pairs.proofs.exp_neg.exp_neg.Statement.{statement}
 use Rattle.pairs.proofs.exp_neg.exp_neg.Tie as tie
+
+module _ (y : Pair) (o : y .low ≤ y .high) (small : y .high < 256 * U) where
+  passes-63 : A.below-256 (given y) ≡ given y
+  unfolding A.below-256 A.below-256-of
+  passes-63 = rw (le-ltb (y .high) (y .low) o, lt-leb (256 * U) (y .high) small)
+
+  cold : 20 * U ≤ y .low → given cold-pair ≡ exp-neg-of y
+  unfolding exp-neg A.unless-cold is-cold
+  cold l = rw (passes-63, le-leb (20 * U) (y .low) l)
+
+  warm : y .low < 20 * U → exp-series answers (given y) ≡ exp-neg-of y
+  unfolding exp-neg A.unless-cold is-cold
+  warm l = rw (passes-63, lt-leb (20 * U) (y .low) l) (ap (exp-series answers) (sym passes-63))
 
 -- y over 256
 module _ (y : Pair) (high : ℕ) (o : y .low ≤ y .high) (small : y .high < 256 * U) (h : high ≡ up (y .high) 256) where
@@ -28,18 +41,18 @@ module _ (y : Pair) (high : ℕ) (o : y .low ≤ y .high) (small : y .high < 256
   unfolding up
   within = omega arith
 
-  over-256 : A.over (A.below-256 (given y)) 256 ≡ given z
-  unfolding A.below-256 A.below-256-of A.over
+  over-256 : A.over (given y) 256 ≡ given z
+  unfolding A.over
   over-256 =
       let e : z ≡ R.over y 256 = over-is y z 256 refl h in
       let fits : (R.over y 256) .high < 2 ^ 64 = subst (λ (p : Pair). p .high < 2 ^ 64) e (small-enough (within .high)) in
-      rw (le-ltb (y .high) (y .low) o, lt-leb (256 * U) (y .high) small) (sym (over-turned y 256 .is o refl fits)) ∙ ap given (sym e)
+      sym (over-turned y 256 .is o refl fits) ∙ ap given (sym e)
     where
       small-enough : {n : ℕ} → n ≤ U → n < 2 ^ 64
       small-enough l = omega arith
 
-  all-squares : (r : Pair) → r ≡ alternating rounded (exp-term rounded z) → squared answers 8 (given r) ≡ exp-neg-of y
-  unfolding exp-neg
+  all-squares : (r : Pair) → r ≡ alternating rounded (exp-term rounded z) → squared answers 8 (given r) ≡ exp-series answers (given y)
+  unfolding exp-series
   all-squares r e = rw over-256 (ap (squared answers 8) (ap given e ∙ sym (exp-given z within)))
 
 -- k squares are made, and one more
@@ -65,11 +78,14 @@ returns c = exp-61 _ (omega arith)
 returns-2 : tie.Need-returns-2 Inv-loop μ-loop
 returns-2 c = exp-63 _ (omega arith) (omega arith)
 
+returns-3 : tie.Need-returns-3 Inv-loop μ-loop
+returns-3 c = cold _ (omega arith) (omega arith) (omega arith)
+
 divided-up-requires : tie.Need-divided-up-requires Inv-loop μ-loop
 divided-up-requires c κs = omega arith
 
 alternating-exp-requires : tie.Need-alternating-exp-requires Inv-loop μ-loop
-alternating-exp-requires c κs = let y = c .before .before .before .before .before .before .args .y in
+alternating-exp-requires c κs = let y = c .before .before .before .before .before .before .before .before .args .y in
     let w = within y _ (omega arith) (omega arith) (c .divided-up .ensures) in (w .ordered, w .high)
 
 loop-holds : tie.Need-loop-holds Inv-loop μ-loop
@@ -87,10 +103,11 @@ loop-less c = omega arith
 loop-again : tie.Need-loop-again Inv-loop μ-loop
 loop-again c = (omega arith, again _ _ _ _ (omega arith) (c .square .ensures) (c .before .before .loop .inv .1))
 
-returns-3 : tie.Need-returns-3 Inv-loop μ-loop
-returns-3 c = let d = c .before .before in
+returns-4 : tie.Need-returns-4 Inv-loop μ-loop
+returns-4 c = let d = c .before .before in
     finished _ _ _ (omega arith) (c .before .loop .inv .1)
     ∙ all-squares _ _ (omega arith) (omega arith) (d .before .divided-up .ensures) _ (d .alternating-exp .ensures)
+    ∙ warm _ (omega arith) (omega arith) (omega arith)
 
 pub exp-neg-spec : {M : Type 1} → statement M
 exp-neg-spec =
@@ -100,6 +117,7 @@ exp-neg-spec =
     μ-loop
     returns
     returns-2
+    returns-3
     divided-up-requires
     alternating-exp-requires
     loop-holds
@@ -107,4 +125,4 @@ exp-neg-spec =
     add-counter
     loop-less
     loop-again
-    returns-3)
+    returns-4)
