@@ -110,19 +110,18 @@ at-most-a-third b = spanning (leb (b .most) (up (U * U) (3 * U))) b
 unfoldable pub below-256 : Bound → Bound
 below-256 b = spanning (ltb (b .most) (256 * U)) b
 
--- Where y stays below 20, x; else x or the cold pair.
+-- x where y stays below 20, else x or the cold pair, which is as wide as it is high.
+unfoldable pub or-cold : Bool → Bound → Bound
+or-cold safe x =
+    record {
+      least = 0;
+      most = max (x .most) (cold-pair .high);
+      width = max (x .width) (cold-pair .high);
+      safe = safe && x .safe;
+    }
+
 unfoldable pub unless-cold : Bound → Bound → Bound
-unless-cold y x =
-    elim (ltb (y .most) (20 * U)) [
-      | true ↦ spanning (y .safe) x
-      | false ↦
-          record {
-            least = 0;
-            most = max (x .most) (cold-pair .high);
-            width = max (x .width) (cold-pair .high);
-            safe = y .safe && x .safe;
-          }
-    ]
+unless-cold y x = elim (ltb (y .most) (20 * U)) [ true ↦ spanning (y .safe) x | false ↦ or-cold (y .safe) x ]
 
 abbrev pub bounds : Arithmetic
 bounds =

@@ -3,13 +3,13 @@
 use mathlib.Core.Path.{_≡_}
 use mathlib.Core.Bool.{Bool, _&&_}
 use Prim.Native.Nat.{ℕ, zero, suc, _+_, _*_, _≤_, _<_, zero-le, max}
-use native.Mathlib.Nat.{le-trans, le-refl, mul-add, add-mul, mul-comm, mul-assoc, mul-le-mul, mul-le-mul-left, mul-le-mul-right, le-of-mul-le-mul-right, mul-pos, one-mul, suc-mul, mul-right-comm, le-max-left}
+use native.Mathlib.Nat.{le-trans, le-refl, mul-add, add-mul, mul-comm, mul-assoc, mul-le-mul, mul-le-mul-left, mul-le-mul-right, le-of-mul-le-mul-right, mul-pos, one-mul, suc-mul, mul-right-comm, le-max-left, le-max-right}
 use native.Mathlib.Omega.{arith}
 use lib.Dec.{T, leb, ltb, leb→le, ltb→lt, lit<}
 use lib.Ieee.Fits.{and-l, and-r}
 use Rattle.pairs.specs.declared.answer.Pair.{Pair}
 use Rattle.pairs.specs.Rounded as R
-use Rattle.pairs.specs.Rounded.{U, rounded, up, down, root-down, root-up, fifth-root-down, fifth-root-up, fifth-power-up, fifth-power-down}
+use Rattle.pairs.specs.Rounded.{U, rounded, cold-pair, up, down, root-down, root-up, fifth-root-down, fifth-root-up, fifth-power-up, fifth-power-down}
 use Rattle.pairs.proofs.Rounding.{up-covers, up-least, up-grows, down-grows, down-within, down-covers}
 use Rattle.pairs.proofs.Search.{by-test, self-square, fifth-root-up-within, root-down-passes, root-down-bound, root-down-next, root-up-passes, root-up-bound, fifth-root-down-passes, fifth-root-down-bound, fifth-root-up-passes, fifth-root-up-bound}
 use Rattle.pairs.proofs.FifthPower.{U⁴, slope, loss, fifth-root-near}
@@ -54,6 +54,26 @@ times-inside {p} {b} h n =
 pub high-only-inside : {p : Pair} {b : Bound} → Inside p b → Inside (R.high-only p) (B.high-only b)
 unfolding R.high-only B.high-only bound
 high-only-inside h = record { low = zero-le; ordered = zero-le; high = h .high; near = omega arith }
+
+-- ---- what is let through as it is, and the cold pair
+pub spanning-inside : {p : Pair} {b : Bound} (test : Bool) → Inside p b → Inside p (B.spanning test b)
+unfolding B.spanning
+spanning-inside test h = record { low = h .low; ordered = h .ordered; high = h .high; near = h .near }
+
+pub or-cold-inside : {p : Pair} {b : Bound} (safe : Bool) → Inside p b → Inside p (B.or-cold safe b)
+unfolding B.or-cold
+or-cold-inside {b = b} safe h =
+    record {
+      low = zero-le;
+      ordered = h .ordered;
+      high = le-trans (h .high) (le-max-left _ _);
+      near = omega (arith, h .near, le-max-left (b .width) (cold-pair .high));
+    }
+
+pub cold-inside : (safe : Bool) (b : Bound) → Inside cold-pair (B.or-cold safe b)
+unfolding B.or-cold
+cold-inside safe b =
+    record { low = zero-le; ordered = zero-le; high = le-max-right (b .most) _; near = omega (arith, le-max-right (b .width) (cold-pair .high)) }
 
 -- ---- product: b·d is at most a·c and each width times the other's high end
 product-width : (a b c d M N X W : ℕ) → b ≤ a + X → d ≤ c + W → b ≤ M → d ≤ N → c ≤ d → b * d ≤ a * c + (M * W + X * N)

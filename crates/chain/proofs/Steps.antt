@@ -1,6 +1,6 @@
 -- A relation between two arithmetics that each operation keeps is kept by every step of the chain, from the steps before it,
 -- and so by the chain of one enquiry. By a walk over the definitions. Assumes nothing.
-use mathlib.Core.Bool.{Bool, true, false}
+use mathlib.Core.Bool.{Bool}
 use Prim.Native.Nat.{ℕ, zero, suc, _*_}
 use lib.Dec.{eqb}
 use lib.IntN.{natAbs}

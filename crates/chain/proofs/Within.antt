@@ -1,9 +1,9 @@
 -- What the arithmetic of bounds says of the arithmetic of answers: where the bound is safe, the answer is a pair inside it.
 -- Each operation keeps that; an answer is not refused because the bound made the refusal's tests before. Assumes nothing.
 use mathlib.Core.Path.{_≡_, refl, sym, ap, subst}
-use mathlib.Core.Bool.{Bool, true, false, _&&_}
-use Prim.Native.Nat.{ℕ, zero, _*_, _^_, _≤_, _<_, zero-le, max}
-use native.Mathlib.Nat.{le-trans, lt-of-le-of-lt, le-max-left, le-max-right}
+use mathlib.Core.Bool.{Bool, true, _&&_}
+use Prim.Native.Nat.{ℕ, zero, _*_, _^_, _≤_, _<_}
+use native.Mathlib.Nat.{le-trans, lt-of-le-of-lt}
 use native.Mathlib.Omega.{arith}
 use lib.Dec.{T, leb, ltb, eqb, leb→le, ltb→lt, eqb→eq}
 use lib.Ieee.Fits.{and-l, and-r}
@@ -113,7 +113,7 @@ spanning-within {f} {b} refused-by tested h passes =
     one-held (admit (f .pair) (refuse refused-by (refused 63) (given (f .pair)))) (B.spanning tested b) h (λ s. and-r tested (b .safe) s)
     (λ s i. held-admit i
     (rw (refuse-given refused-by 63 (given (f .pair)) (passes (and-l tested (b .safe) s) (i .high)))
-    (record { given = refl; inside = record { low = i .low; ordered = i .ordered; high = i .high; near = i .near } })))
+    (record { given = refl; inside = I.spanning-inside tested i })))
 
 over-the-limit : {h m : ℕ} (n : ℕ) → T (leb m n) → h ≤ m → T (ltb n h) → ⊥
 over-the-limit {h} {m} n t k s = omega (arith, leb→le m n t, ltb→lt n h s)
@@ -121,41 +121,28 @@ over-the-limit {h} {m} n t k s = omega (arith, leb→le m n t, ltb→lt n h s)
 at-the-limit : {h m : ℕ} (n : ℕ) → T (ltb m n) → h ≤ m → T (leb n h) → ⊥
 at-the-limit {h} {m} n t k s = omega (arith, ltb→lt m n t, leb→le n h s)
 
--- Below 20 only x can be; else x or the cold pair, which is as wide as its high end.
+-- Below 20 only x can come out; else x or the cold pair.
 unless-cold-within : {f x : Figures} {b c : Bound} → Within f b → Within x c → Within (A.unless-cold f x) (B.unless-cold b c)
-unfolding A.unless-cold B.unless-cold B.spanning is-cold
+unfolding A.unless-cold B.unless-cold B.spanning B.or-cold is-cold
 unless-cold-within {f} {x} {b} {c} h k =
-    by-test (Within (A.unless-cold f x)) (ltb (b .most) (20 * U)) below-20 or-cold
-    (λ t. one-held tail below-20 h (λ s. and-l (b .safe) (c .safe) s)
-    (λ s i. by-test (λ u. Held u below-20) (is-cold (f .pair)) (given cold-pair) x (λ u. absurd (not-cold i t u))
-    (λ _. let H = k .where-safe (and-r (b .safe) (c .safe) s) in
-    record { given = H .given; inside = record { low = H .inside .low; ordered = H .inside .ordered; high = H .inside .high; near = H .inside .near } })))
-    (λ _. one-held tail or-cold h (λ s. and-l (b .safe) (c .safe) s)
-    (λ s i. by-test (λ u. Held u or-cold) (is-cold (f .pair)) (given cold-pair) x
-    (λ _. record { given = refl; inside = record { low = zero-le; ordered = zero-le; high = le-max-right _ _; near = omega (arith, le-max-right (c .width) (cold-pair .high)) } })
-    (λ _. let H = k .where-safe (and-r (b .safe) (c .safe) s) in
-    record {
-      given = H .given;
-      inside =
-          record {
-            low = zero-le;
-            ordered = H .inside .ordered;
-            high = le-trans (H .inside .high) (le-max-left _ _);
-            near = omega (arith, H .inside .near, le-max-left (c .width) (cold-pair .high));
-          };
-    })))
+    by-test (Within (A.unless-cold f x)) (ltb (b .most) (20 * U)) below or-cold
+    (λ t. one-held _ below h (λ s. and-l (b .safe) (c .safe) s)
+    (λ s i. by-test (λ u. Held u below) (is-cold (f .pair)) (given cold-pair) x (λ u. absurd (not-cold i t u)) (λ _. follows s below (I.spanning-inside (b .safe)))))
+    (λ _. one-held _ or-cold h (λ s. and-l (b .safe) (c .safe) s)
+    (λ s _. by-test (λ u. Held u or-cold) (is-cold (f .pair)) (given cold-pair) x
+    (λ _. record { given = refl; inside = I.cold-inside (b .safe) c }) (λ _. follows s or-cold (I.or-cold-inside (b .safe)))))
   where
-    tail : Figures
-    tail = elim (is-cold (f .pair)) [ true ↦ given cold-pair | false ↦ x ]
-
-    below-20 : Bound
-    below-20 = B.spanning (b .safe) c
+    below : Bound
+    below = B.spanning (b .safe) c
 
     or-cold : Bound
-    or-cold = record { least = 0; most = max (c .most) (cold-pair .high); width = max (c .width) (cold-pair .high); safe = b .safe && c .safe }
+    or-cold = B.or-cold (b .safe) c
 
-    not-cold : Inside (f .pair) b → T (ltb (b .most) (20 * U)) → T (is-cold (f .pair)) → ⊥
+    not-cold : Inside (f .pair) b → T (ltb (b .most) (20 * U)) → T (leb (20 * U) (f .pair .low)) → ⊥
     not-cold i t u = omega (arith, i .ordered, i .high, ltb→lt (b .most) (20 * U) t, leb→le (20 * U) (f .pair .low) u)
+
+    follows : T (b .safe && c .safe) → (d : Bound) → (Inside (x .pair) c → Inside (x .pair) d) → Held x d
+    follows s d inside = let H = k .where-safe (and-r (b .safe) (c .safe) s) in record { given = H .given; inside = inside (H .inside) }
 
 pub within : Kept answers bounds Within
 unfolding A.sum A.sum-of A.difference A.difference-of A.product A.product-of A.times A.times-of A.root A.root-of A.fifth-root A.fifth-root-of A.at-most-one A.at-most-one-of A.at-most-a-third A.at-most-a-third-of A.below-256 A.below-256-of B.sum B.difference B.product B.times B.root B.fifth-root B.at-most-one B.at-most-a-third B.below-256

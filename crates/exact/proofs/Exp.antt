@@ -67,9 +67,9 @@ exp-series-meets n deep {a} {y} h small =
     z = over-meets h 256 (lit< tt)
 
 -- ---- from 20 on
--- Numbers up to 256, in trillionths, so near one another that the series on the pair from each to the next is at most 2,062.
-abbrev steps : List ℕ
-steps =
+-- Depths after 20, to 256, so near one another that the series on the pair from each to the next is at most 2,062 trillionths.
+abbrev depths : List ℕ
+depths =
     20_004_800_000_000
     ∷ 20_066_000_000_000
     ∷ 20_830_000_000_000
@@ -90,13 +90,16 @@ abbrev end-of : ℕ → List ℕ → ℕ
 end-of a [] = a
 end-of a (b ∷ bs) = end-of b bs
 
-small-steps : T (small-along (20 * U) steps)
+all-small : T (small-along (20 * U) depths)
 unfolding small-between exp-series squared alternating plus-terms minus-terms exp-term answer.constant answer.sum answer.sum-of answer.difference answer.difference-of answer.product answer.product-of answer.over answer.over-of answer.high-only answer.high-only-of answer.fitting rounded.constant rounded.sum rounded.difference rounded.product rounded.over rounded.high-only up down
-small-steps = tt
+all-small = tt
 
 module _ (n : ℕ) (deep : 8 ≤ n) (y : Bracket) (s : Sound y) (below : y .low ⊑ whole 256) where
+  abbrev Small : Type 0
+  Small = (exp-series (exact n) y) .low ⊑ trillionths 2_062
+
   -- A pair that y overlaps, and that the series is small on.
-  on-pair : (a b : ℕ) → T (small-between a b) → trillionths a ⊑ y .high → y .low ⊑ trillionths b → (exp-series (exact n) y) .low ⊑ trillionths 2_062
+  on-pair : (a b : ℕ) → T (small-between a b) → trillionths a ⊑ y .high → y .low ⊑ trillionths b → Small
   unfolding small-between
   on-pair a b t l h =
       let x = exp-series answers (given (ends a b)) in
@@ -106,7 +109,7 @@ module _ (n : ℕ) (deep : 8 ≤ n) (y : Bracket) (s : Sound y) (below : y .low 
       m .overlap t₀ .high ⟫ trillionths-mono t₁
 
   -- Of the pairs from a on, one that y's low end lies in or before.
-  along : (a : ℕ) (bs : List ℕ) → T (small-along a bs) → trillionths a ⊑ y .high → y .low ⊑ trillionths (end-of a bs) → (exp-series (exact n) y) .low ⊑ trillionths 2_062
+  along : (a : ℕ) (bs : List ℕ) → T (small-along a bs) → trillionths a ⊑ y .high → y .low ⊑ trillionths (end-of a bs) → Small
   along a [] t l h = on-pair a a t l h
   along a (b ∷ bs) t l h =
       elim (either (y .low) (trillionths b)) [
@@ -122,7 +125,7 @@ pub cold-low :
 unfolding exp-neg depth.unless-cold
 cold-low n deep p y s o cold fits =
     let below : y .low ⊑ trillionths (256 * U) = o .high ⟫ trillionths-mono (le-of-lt fits) in
-    along n deep y s (below ⟫ 256-U-is-256) (20 * U) steps small-steps (trillionths-mono cold ⟫ o .low) below
+    along n deep y s (below ⟫ 256-U-is-256) (20 * U) depths all-small (trillionths-mono cold ⟫ o .low) below
 
 pub exp-neg-meets : (n : ℕ) → 8 ≤ n → {a : Figures} {y : Bracket} → Meets a y → Meets (exp-neg answers a) (exp-neg (exact n) y)
 unfolding exp-neg is-cold depth.unless-cold

@@ -1,15 +1,15 @@
--- Arc, H and exp turn a pair back: 61 and 63, in this order, and a refusal that comes in stays to the end of the series.
--- By computing the series on a refusal. Assumes nothing.
-use mathlib.Core.Path.{_≡_, refl, sym}
-use Prim.Native.Nat.{ℕ, zero, suc, _*_, _≤_, _<_}
-use borrow.Author.Tests.{lt-ltb, le-ltb, le-leb}
+-- Arc, H and exp turn a pair back: 61 and 63, in this order, and a refusal that comes in stays to the end of the series. Exp then gives
+-- the cold pair from 20 on and the series below. By computing on a refusal and on a test. Assumes nothing.
+use mathlib.Core.Path.{_≡_, refl, sym, ap}
+use Prim.Native.Nat.{ℕ, suc, _*_, _≤_, _<_}
+use borrow.Author.Tests.{lt-ltb, le-ltb, le-leb, lt-leb}
 use Rattle.pairs.specs.declared.answer.Pair.{Pair}
 use Rattle.pairs.specs.Rounded as R
-use Rattle.pairs.specs.Rounded.{U}
-use Rattle.pairs.specs.Figures.{refused}
+use Rattle.pairs.specs.Rounded.{U, is-cold, cold-pair}
+use Rattle.pairs.specs.Figures.{given, refused}
 use Rattle.pairs.specs.Answers as A
 use Rattle.pairs.specs.Answers.{answers, arc-of, h-series-of, exp-neg-of}
-use Rattle.pairs.specs.Series.{plus-terms, alternating, power, arc-term, arc, half-angle, atan, exp-neg, total, h-of, h-series}
+use Rattle.pairs.specs.Series.{plus-terms, alternating, power, arc-term, arc, half-angle, atan, exp-series, exp-neg, total, h-of, h-series}
 
 module _ (n : ℕ) where
   arc-terms-refused : alternating answers (arc-term answers (refused (suc n))) ≡ refused (suc n)
@@ -59,3 +59,15 @@ module _ (t : Pair) where
   pub exp-63 : t .low ≤ t .high → 256 * U ≤ t .high → refused 63 ≡ exp-neg-of t
   unfolding exp-neg A.below-256 A.below-256-of A.unless-cold
   exp-63 o h = rw (le-ltb (t .high) (t .low) o, le-leb (256 * U) (t .high) h)
+
+  passes-63 : t .low ≤ t .high → t .high < 256 * U → A.below-256 (given t) ≡ given t
+  unfolding A.below-256 A.below-256-of
+  passes-63 o h = rw (le-ltb (t .high) (t .low) o, lt-leb (256 * U) (t .high) h)
+
+  pub exp-cold : t .low ≤ t .high → t .high < 256 * U → 20 * U ≤ t .low → given cold-pair ≡ exp-neg-of t
+  unfolding exp-neg A.unless-cold is-cold
+  exp-cold o h l = rw (passes-63 o h, le-leb (20 * U) (t .low) l)
+
+  pub exp-warm : t .low ≤ t .high → t .high < 256 * U → t .low < 20 * U → exp-series answers (given t) ≡ exp-neg-of t
+  unfolding exp-neg A.unless-cold is-cold
+  exp-warm o h l = rw (passes-63 o h, lt-leb (20 * U) (t .low) l) (ap (exp-series answers) (sym (passes-63 o h)))

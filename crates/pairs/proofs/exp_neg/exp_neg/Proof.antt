@@ -3,34 +3,20 @@
 use mathlib.Core.Path.{_≡_, refl, sym, ap, subst, _∙_}
 use Prim.Native.Nat.{ℕ, suc, _+_, _*_, _-_, _/_, _^_, _≤_, _<_}
 use native.Mathlib.Omega.{arith}
-use borrow.Author.Tests.{le-ltb, le-leb, lt-leb}
 use Rattle.pairs.specs.declared.answer.Pair.{Pair}
 use Rattle.pairs.specs.Rounded as R
-use Rattle.pairs.specs.Rounded.{U, rounded, ends, up, is-cold, cold-pair}
+use Rattle.pairs.specs.Rounded.{U, rounded, ends, up}
 use Rattle.pairs.specs.Figures.{Figures, figures, given}
 use Rattle.pairs.specs.Answers as A
-use Rattle.pairs.specs.Answers.{answers, exp-neg-of}
-use Rattle.pairs.specs.Series.{alternating, exp-term, squared, exp-series, exp-neg}
+use Rattle.pairs.specs.Answers.{answers}
+use Rattle.pairs.specs.Series.{alternating, exp-term, squared, exp-series}
 use Rattle.pairs.proofs.Turned.{over-turned}
 use Rattle.pairs.proofs.Terms.{Within, exp-given}
 use Rattle.pairs.proofs.Turns.{over-is}
-use Rattle.pairs.proofs.Refusals.{exp-61, exp-63}
+use Rattle.pairs.proofs.Refusals.{exp-61, exp-63, exp-cold, exp-warm}
 use borrow.Author.Needs.{needs}
 use Rattle.pairs.proofs.exp_neg.exp_neg.Statement.{statement}
 use Rattle.pairs.proofs.exp_neg.exp_neg.Tie as tie
-
-module _ (y : Pair) (o : y .low ≤ y .high) (small : y .high < 256 * U) where
-  passes-63 : A.below-256 (given y) ≡ given y
-  unfolding A.below-256 A.below-256-of
-  passes-63 = rw (le-ltb (y .high) (y .low) o, lt-leb (256 * U) (y .high) small)
-
-  cold : 20 * U ≤ y .low → given cold-pair ≡ exp-neg-of y
-  unfolding exp-neg A.unless-cold is-cold
-  cold l = rw (passes-63, le-leb (20 * U) (y .low) l)
-
-  warm : y .low < 20 * U → exp-series answers (given y) ≡ exp-neg-of y
-  unfolding exp-neg A.unless-cold is-cold
-  warm l = rw (passes-63, lt-leb (20 * U) (y .low) l) (ap (exp-series answers) (sym passes-63))
 
 -- y over 256
 module _ (y : Pair) (high : ℕ) (o : y .low ≤ y .high) (small : y .high < 256 * U) (h : high ≡ up (y .high) 256) where
@@ -79,7 +65,7 @@ returns-2 : tie.Need-returns-2 Inv-loop μ-loop
 returns-2 c = exp-63 _ (omega arith) (omega arith)
 
 returns-3 : tie.Need-returns-3 Inv-loop μ-loop
-returns-3 c = cold _ (omega arith) (omega arith) (omega arith)
+returns-3 c = exp-cold _ (omega arith) (omega arith) (omega arith)
 
 divided-up-requires : tie.Need-divided-up-requires Inv-loop μ-loop
 divided-up-requires c κs = omega arith
@@ -107,7 +93,7 @@ returns-4 : tie.Need-returns-4 Inv-loop μ-loop
 returns-4 c = let d = c .before .before in
     finished _ _ _ (omega arith) (c .before .loop .inv .1)
     ∙ all-squares _ _ (omega arith) (omega arith) (d .before .divided-up .ensures) _ (d .alternating-exp .ensures)
-    ∙ warm _ (omega arith) (omega arith) (omega arith)
+    ∙ exp-warm _ (omega arith) (omega arith) (omega arith)
 
 pub exp-neg-spec : {M : Type 1} → statement M
 exp-neg-spec =
