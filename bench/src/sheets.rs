@@ -25,19 +25,38 @@ struct Kind {
     pools: u64,
     methods: [u64; 2],
     off_the_floor: bool,
-    /// Fuels and areas whose optical depth is from 21 on.
-    thick_smoke: bool,
+    smoke: Smoke,
+}
+
+/// How large the optical depths of the pools are.
+enum Smoke {
+    Any,
+    /// Below 20.
+    Thin,
+    /// 21 or more.
+    Thick,
+}
+
+impl Smoke {
+    /// The least and the largest absorption, and the least area.
+    fn limits(&self) -> (u64, u64, u64) {
+        match self {
+            Smoke::Any => (100, 500, 100),
+            Smoke::Thin => (40, 79, 4_000),
+            Smoke::Thick => (300, 500, 4_000),
+        }
+    }
 }
 
 /// A sheet with all numbers inside the limits and flames that are high enough.
 fn sheet(x: &mut u64, kind: &Kind, first: u64) -> Vec<u8> {
     let pools = kind.pools;
-    let (absorption, area) = if kind.thick_smoke { (300, 4_000) } else { (100, 100) };
+    let (least, most, area) = kind.smoke.limits();
     let mut s = Vec::new();
     put(&mut s, 2, pools);
     for _ in 0..pools {
         put(&mut s, 2, between(x, 40, 150));
-        put(&mut s, 2, between(x, absorption, 500));
+        put(&mut s, 2, between(x, least, most));
         put(&mut s, 2, between(x, 250, 500));
     }
     put(&mut s, 2, pools);
@@ -95,17 +114,19 @@ pub fn table() -> bool {
     println!("| {SHEETS} sheets of {TARGETS} targets | answered | Rattle, µs each | Rust, µs each | times faster |");
     println!("|---|---|---|---|---|");
     let mut agree = true;
-    for (pools, methods, off_the_floor, thick_smoke, name) in [
-        (64, [1, 2], false, false, "64 pools, height 0"),
-        (64, [1, 2], true, false, "64 pools, any height"),
-        (1, [1, 2], false, false, "1 pool, height 0"),
-        (1, [1, 2], true, false, "1 pool, any height"),
-        (64, [3, 3], false, false, "64 smoky pools, height 0"),
-        (64, [3, 3], true, false, "64 smoky pools, any height"),
-        (64, [1, 2], false, true, "64 pools in thick smoke, height 0"),
-        (64, [3, 3], false, true, "64 smoky pools in thick smoke, height 0"),
+    for (pools, methods, off_the_floor, smoke, name) in [
+        (64, [1, 2], false, Smoke::Any, "64 pools, height 0"),
+        (64, [1, 2], true, Smoke::Any, "64 pools, any height"),
+        (1, [1, 2], false, Smoke::Any, "1 pool, height 0"),
+        (1, [1, 2], true, Smoke::Any, "1 pool, any height"),
+        (64, [3, 3], false, Smoke::Any, "64 smoky pools, height 0"),
+        (64, [3, 3], true, Smoke::Any, "64 smoky pools, any height"),
+        (64, [1, 2], false, Smoke::Thin, "64 pools, k·D under 20, height 0"),
+        (64, [1, 2], false, Smoke::Thick, "64 pools, k·D over 20, height 0"),
+        (64, [3, 3], false, Smoke::Thin, "64 smoky pools, k·D under 20, height 0"),
+        (64, [3, 3], false, Smoke::Thick, "64 smoky pools, k·D over 20, height 0"),
     ] {
-        let kind = Kind { pools, methods, off_the_floor, thick_smoke };
+        let kind = Kind { pools, methods, off_the_floor, smoke };
         let mut x = 88_172_645_463_325_252 + pools;
         let sheets: Vec<Vec<u8>> = (0..SHEETS).map(|i| sheet(&mut x, &kind, i)).collect();
         agree = compared(name, &sheets) && agree;

@@ -110,7 +110,7 @@ at-most-a-third b = spanning (leb (b .most) (up (U * U) (3 * U))) b
 unfoldable pub below-256 : Bound → Bound
 below-256 b = spanning (ltb (b .most) (256 * U)) b
 
--- x where y stays below 20, else x or the cold pair, which is as wide as it is high.
+-- x or the cold pair, which is as wide as it is high.
 unfoldable pub or-cold : Bool → Bound → Bound
 or-cold safe x =
     record {
@@ -120,6 +120,7 @@ or-cold safe x =
       safe = safe && x .safe;
     }
 
+-- x where y stays below 20, else either.
 unfoldable pub unless-cold : Bound → Bound → Bound
 unless-cold y x = elim (ltb (y .most) (20 * U)) [ true ↦ spanning (y .safe) x | false ↦ or-cold (y .safe) x ]
 

@@ -127,7 +127,7 @@ unfolding A.unless-cold B.unless-cold B.spanning B.or-cold is-cold
 unless-cold-within {f} {x} {b} {c} h k =
     by-test (Within (A.unless-cold f x)) (ltb (b .most) (20 * U)) below or-cold
     (λ t. one-held _ below h (λ s. and-l (b .safe) (c .safe) s)
-    (λ s i. by-test (λ u. Held u below) (is-cold (f .pair)) (given cold-pair) x (λ u. absurd (not-cold i t u)) (λ _. follows s below (I.spanning-inside (b .safe)))))
+    (λ s i. by-test (λ u. Held u below) (is-cold (f .pair)) (given cold-pair) x (λ u. absurd (at-the-limit (20 * U) t (le-trans (i .ordered) (i .high)) u)) (λ _. follows s below (I.spanning-inside (b .safe)))))
     (λ _. one-held _ or-cold h (λ s. and-l (b .safe) (c .safe) s)
     (λ s _. by-test (λ u. Held u or-cold) (is-cold (f .pair)) (given cold-pair) x
     (λ _. record { given = refl; inside = I.cold-inside (b .safe) c }) (λ _. follows s or-cold (I.or-cold-inside (b .safe)))))
@@ -137,9 +137,6 @@ unless-cold-within {f} {x} {b} {c} h k =
 
     or-cold : Bound
     or-cold = B.or-cold (b .safe) c
-
-    not-cold : Inside (f .pair) b → T (ltb (b .most) (20 * U)) → T (leb (20 * U) (f .pair .low)) → ⊥
-    not-cold i t u = omega (arith, i .ordered, i .high, ltb→lt (b .most) (20 * U) t, leb→le (20 * U) (f .pair .low) u)
 
     follows : T (b .safe && c .safe) → (d : Bound) → (Inside (x .pair) c → Inside (x .pair) d) → Held x d
     follows s d inside = let H = k .where-safe (and-r (b .safe) (c .safe) s) in record { given = H .given; inside = inside (H .inside) }

@@ -1,11 +1,11 @@
 -- exp(-y): the rounded one overlaps the exact one at every depth from 8 on. The terms fall since y over 256 is at most 1 wherever exp
--- is not refused; from 20 on the exact low end is at most the cold pair's high end, by the series on seven pairs. Assumes nothing.
+-- is not refused; from 20 on the exact low end is at most the cold pair's high end, by the series on seven pairs end to end. Assumes nothing.
 use mathlib.Core.Path.{_≡_}
 use mathlib.Core.Bool.{Bool, _&&_}
 use mathlib.Core.List.{List, [], _∷_}
 use mathlib.Core.Logic.{inl, inr}
 use Prim.Native.Nat.{ℕ, zero, suc, _*_, _≤_, _<_}
-use native.Mathlib.Nat.{zero-lt-suc, le-refl, le-of-lt}
+use native.Mathlib.Nat.{zero-lt-suc, le-refl, le-of-lt, not-le-of-lt}
 use lib.Dec.{T, lit<, lit≤, leb, eqb, leb→le, eqb→eq}
 use lib.Ieee.Fits.{and-l, and-r}
 use Rattle.pairs.specs.declared.answer.Pair.{Pair}
@@ -15,7 +15,7 @@ use Rattle.pairs.specs.Rounded.{U, ends, is-cold, up, down}
 use Rattle.pairs.specs.Answers.{answers}
 use Rattle.pairs.specs.Answers as answer
 use Rattle.pairs.specs.Series.{plus-terms, minus-terms, alternating, exp-term, squared, exp-series, exp-neg}
-use Rattle.exact.specs.Fraction.{_⊑_, whole, _⊘_}
+use Rattle.exact.specs.Fraction.{_⊑_, whole, _⊕_, _⊖_, _⊗_, _⊘_}
 use Rattle.exact.specs.Depth as depth
 use Rattle.exact.specs.Depth.{Bracket, exact}
 use Rattle.exact.proofs.Order.{_⟫_, ⊏→⊑, either, ⊗-mono, ⊗-1, over-mono, over-falls}
@@ -67,9 +67,9 @@ exp-series-meets n deep {a} {y} h small =
     z = over-meets h 256 (lit< tt)
 
 -- ---- from 20 on
--- Depths after 20, to 256, so near one another that the series on the pair from each to the next is at most 2,062 trillionths.
-abbrev depths : List ℕ
-depths =
+-- Numbers after 20, up to 256, so near one another that the series on the pair from each to the next is at most 2,062 trillionths.
+abbrev up-to-256 : List ℕ
+up-to-256 =
     20_004_800_000_000
     ∷ 20_066_000_000_000
     ∷ 20_830_000_000_000
@@ -90,7 +90,7 @@ abbrev end-of : ℕ → List ℕ → ℕ
 end-of a [] = a
 end-of a (b ∷ bs) = end-of b bs
 
-all-small : T (small-along (20 * U) depths)
+all-small : T (small-along (20 * U) up-to-256)
 unfolding small-between exp-series squared alternating plus-terms minus-terms exp-term answer.constant answer.sum answer.sum-of answer.difference answer.difference-of answer.product answer.product-of answer.over answer.over-of answer.high-only answer.high-only-of answer.fitting rounded.constant rounded.sum rounded.difference rounded.product rounded.over rounded.high-only up down
 all-small = tt
 
@@ -117,19 +117,24 @@ module _ (n : ℕ) (deep : 8 ≤ n) (y : Bracket) (s : Sound y) (below : y .low 
         | inr p ↦ along b bs (and-r (small-between a b) (small-along b bs) t) (⊏→⊑ p ⟫ s .ordered) h
       ]
 
--- Request 8, why the cold pair will do: at every depth from 8 the exact exp(-y) of a bracket that overlaps a pair from 20 up has a low
--- end of at most 2,062 trillionths.
+-- Request 8, why the cold pair will do: at every depth from 8 the exact exp(-y) of a bracket that overlaps a pair from 20 up, and below
+-- 256, has a low end of at most 2,062 trillionths.
 pub cold-low :
     (n : ℕ) → 8 ≤ n → (p : Pair) (y : Bracket) → Sound y → Overlap p y → 20 * U ≤ p .low → p .high < 256 * U
     → (exp-neg (exact n) y) .low ⊑ trillionths 2_062
 unfolding exp-neg depth.unless-cold
 cold-low n deep p y s o cold fits =
     let below : y .low ⊑ trillionths (256 * U) = o .high ⟫ trillionths-mono (le-of-lt fits) in
-    along n deep y s (below ⟫ 256-U-is-256) (20 * U) depths all-small (trillionths-mono cold ⟫ o .low) below
+    along n deep y s (below ⟫ 256-U-is-256) (20 * U) up-to-256 all-small (trillionths-mono cold ⟫ o .low) below
+
+-- And why it cannot be smaller: at depth 8 the exact exp(-20) is above 2,061 trillionths.
+pub not-2061 : (exp-neg (exact 8) (depth.constant 20 1)) .low ⊑ trillionths 2_061 → ⊥
+unfolding exp-neg exp-series squared alternating plus-terms minus-terms exp-term depth.constant depth.sum depth.difference depth.product depth.over depth.high-only depth.unless-cold trillionths whole _⊕_ _⊖_ _⊗_ _⊘_
+not-2061 h = not-le-of-lt (lit< tt) (h .cross)
 
 pub exp-neg-meets : (n : ℕ) → 8 ≤ n → {a : Figures} {y : Bracket} → Meets a y → Meets (exp-neg answers a) (exp-neg (exact n) y)
 unfolding exp-neg is-cold depth.unless-cold
 exp-neg-meets n deep {a} {y} h =
     let t = below-256-meets h in
-    unless-cold-meets t (exp-series-meets n deep t (below-256-bound h))
+    unless-cold-meets (answer.below-256 a) y (exp-series-meets n deep t (below-256-bound h))
     (λ u c. cold-low n deep _ y (h .sound) (t .overlap u) (leb→le (20 * U) _ c) (below-256-high h u))

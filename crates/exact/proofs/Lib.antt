@@ -9,7 +9,6 @@ pub mod Spans
 pub mod Alternating
 pub mod Arc
 pub mod Exp
-pub mod Cold
 pub mod LnTen
 pub mod Flame
 pub mod Factor

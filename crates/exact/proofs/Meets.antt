@@ -14,7 +14,7 @@ use Rattle.pairs.proofs.Agreement.{above-0}
 use Rattle.exact.specs.Fraction.{_⊑_}
 use Rattle.exact.specs.Depth as depth
 use Rattle.exact.specs.Depth.{Bracket}
-use Rattle.exact.proofs.Overlap.{Overlap, trillionths, low-only, high-only-overlap, constant-overlap, sum-overlap, difference-overlap, product-overlap, quotient-overlap, times-overlap, over-overlap, root-overlap, fifth-root-overlap, cold-overlap, warm-overlap}
+use Rattle.exact.proofs.Overlap.{Overlap, trillionths, low-only, high-only-overlap, constant-overlap, sum-overlap, difference-overlap, product-overlap, quotient-overlap, times-overlap, over-overlap, root-overlap, fifth-root-overlap, below-20-overlap, cold-overlap}
 use Rattle.exact.proofs.Sound.{Sound, Positive, constant-sound, sum-sound, difference-sound, product-sound, quotient-sound, times-sound, over-sound, root-sound, unless-cold-sound}
 use Rattle.exact.proofs.Passing.{Passing, after-passing, refuse-passing, admit-passing, fitting-passing}
 
@@ -125,15 +125,15 @@ module _ {a : Figures} {x : Bracket} (h : Meets a x) where
 
 -- Where y is cold, the exact low end has to be small enough.
 pub unless-cold-meets :
-    {a f : Figures} {y x : Bracket} → Meets a y → Meets f x → (a .number ≡ 0 → T (is-cold (a .pair)) → x .low ⊑ trillionths (cold-pair .high))
+    {f : Figures} {x : Bracket} (a : Figures) (y : Bracket) → Meets f x → (a .number ≡ 0 → T (is-cold (a .pair)) → x .low ⊑ trillionths (cold-pair .high))
     → Meets (answers.unless-cold a f) (depth.unless-cold y x)
 unfolding answers.unless-cold
-unless-cold-meets {a} {f} {y} {x} _ h small =
+unless-cold-meets {f} {x} a y h small =
     record {
       sound = unless-cold-sound y (h .sound);
       overlap =
           after-passing Q a _
-          (λ u. by-test (Passing Q) (is-cold (a .pair)) (given cold-pair) f (λ t _. cold-overlap y x (small u t)) (λ _ z. warm-overlap y (h .overlap z)));
+          (λ u. by-test (Passing Q) (is-cold (a .pair)) (given cold-pair) f (λ t _. cold-overlap y x (small u t)) (λ _ z. below-20-overlap y (h .overlap z)));
     }
   where
     Q : Pair → Type 0

@@ -231,10 +231,10 @@ pub high-only-overlap : {p : Pair} {x : Bracket} → Overlap p x → Overlap (ro
 unfolding rounded.high-only low-only
 high-only-overlap h = record { low = trillionths-0; high = h .high }
 
--- ---- exp(-y): at depth n what stands below 20 stays from 20 on, where the rounded one is the cold pair
-pub warm-overlap : {p : Pair} {x : Bracket} (y : Bracket) → Overlap p x → Overlap p (depth.unless-cold y x)
+-- ---- the cold pair: at depth n exp(-y) is its series for every y
+pub below-20-overlap : {p : Pair} {x : Bracket} (y : Bracket) → Overlap p x → Overlap p (depth.unless-cold y x)
 unfolding depth.unless-cold
-warm-overlap y h = record { low = h .low; high = h .high }
+below-20-overlap y h = record { low = h .low; high = h .high }
 
 pub cold-overlap : (y x : Bracket) → x .low ⊑ trillionths (cold-pair .high) → Overlap cold-pair (depth.unless-cold y x)
 unfolding depth.unless-cold

@@ -68,6 +68,6 @@ module _ (t : Pair) where
   unfolding exp-neg A.unless-cold is-cold
   exp-cold o h l = rw (passes-63 o h, le-leb (20 * U) (t .low) l)
 
-  pub exp-warm : t .low ≤ t .high → t .high < 256 * U → t .low < 20 * U → exp-series answers (given t) ≡ exp-neg-of t
+  pub exp-below-20 : t .low ≤ t .high → t .high < 256 * U → t .low < 20 * U → exp-series answers (given t) ≡ exp-neg-of t
   unfolding exp-neg A.unless-cold is-cold
-  exp-warm o h l = rw (passes-63 o h, lt-leb (20 * U) (t .low) l) (ap (exp-series answers) (sym (passes-63 o h)))
+  exp-below-20 o h l = rw (passes-63 o h, lt-leb (20 * U) (t .low) l) (ap (exp-series answers) (sym (passes-63 o h)))

@@ -104,7 +104,7 @@ at-most-a-third a = on-one at-most-a-third-of a
 unfoldable pub below-256 : Figures → Figures
 below-256 a = on-one below-256-of a
 
--- Request 8: "and neither 61 nor 63 applies". Where y is cold, no step of the series x is taken, so none refuses.
+-- Request 8: "and neither 61 nor 63 applies": a refusal of y stays. Where y is cold no step of the series x is taken, so 64 is not given.
 unfoldable pub unless-cold : Figures → Figures → Figures
 unless-cold a x = after a (elim (is-cold (a .pair)) [ true ↦ given cold-pair | false ↦ x ])
 

@@ -22,5 +22,6 @@ pub record Arithmetic : Type 1 where
   pub at-most-one : Carrier → Carrier
   pub at-most-a-third : Carrier → Carrier
   pub below-256 : Carrier → Carrier
-  -- Request 8: the second, unless the first is 20 or more, where exp(-y) is next to nothing. At depth n always the second.
+  -- Request 8, for exp(-y): the second, or [0, 2,062 trillionths] where the low end of the first is 20 or more. At depth n always the
+  -- second.
   pub unless-cold : Carrier → Carrier → Carrier

@@ -92,7 +92,7 @@ cold-pair = ends 0 2_062
 unfoldable pub unless-cold : Pair → Pair → Pair
 unless-cold y x = elim (is-cold y) [ true ↦ cold-pair | false ↦ x ]
 
--- The arithmetic of rounded pairs: 16 and 17 terms, no test.
+-- The arithmetic of rounded pairs: 16 and 17 terms, nothing is refused.
 abbrev pub rounded : Arithmetic
 rounded =
     record {

@@ -1,4 +1,4 @@
-// exp(-y): a series in y over 256, squared eight times; next to nothing from 20 on.
+// exp(-y): a series in y over 256, squared eight times; where y's low end is 20 or more, [0, 2,062 trillionths] (request 8).
 use super::answer::Answer;
 use super::answer::Pair;
 use super::difference::less;

@@ -13,7 +13,7 @@ use Rattle.pairs.specs.Series.{alternating, exp-term, squared, exp-serie
 use Rattle.pairs.proofs.Turned.{over-turned}
 use Rattle.pairs.proofs.Terms.{Within, exp-given}
 use Rattle.pairs.proofs.Turns.{over-is}
-use Rattle.pairs.proofs.Refusals.{exp-61, exp-63, exp-cold, exp-warm}
+use Rattle.pairs.proofs.Refusals.{exp-61, exp-63, exp-cold, exp-below-20}
 use borrow.Author.Needs.{needs}
 use Rattle.pairs.proofs.exp_neg.exp_neg.Statement.{statement}
 use Rattle.pairs.proofs.exp_neg.exp_neg.Tie as tie
@@ -93,7 +93,7 @@ returns-4 : tie.Need-returns-4 Inv-loop μ-loop
 returns-4 c = let d = c .before .before in
     finished _ _ _ (omega arith) (c .before .loop .inv .1)
     ∙ all-squares _ _ (omega arith) (omega arith) (d .before .divided-up .ensures) _ (d .alternating-exp .ensures)
-    ∙ exp-warm _ (omega arith) (omega arith) (omega arith)
+    ∙ exp-below-20 _ (omega arith) (omega arith) (omega arith)
 
 pub exp-neg-spec : {M : Type 1} → statement M
 exp-neg-spec =
