@@ -65,6 +65,7 @@ module _ (A : Arithmetic) where
   exp-series y = squared 8 (alternating (exp-term (A .over y 256)))
 
   -- Request 8: "Where y's low end is 20 or more and neither 61 nor 63 applies, exp(-y) shall be the pair [0, 2,062 trillionths]."
+  -- Here tested is y, past 61 and 63.
   unfoldable pub exp-neg : A .Carrier → A .Carrier
   exp-neg y = let tested = A .below-256 y in A .unless-cold tested (exp-series tested)
 
