@@ -25,3 +25,5 @@ pub mod FactorAlone
 pub mod Examples
 pub mod Given
 pub mod Constants
+pub mod PoolAlone
+pub mod Magnitude

@@ -6,8 +6,9 @@ use mathlib.Core.Bool.{Bool, true, false, _&&_, not}
 use Prim.Native.Nat.{ℕ, _≤_, _<_}
 use native.Mathlib.Nat.{le-trans}
 use native.Mathlib.Omega.{arith}
-use lib.Dec.{T, leb, leb→le, lit≤, lit<}
-use borrow.Author.Tests.{le-leb}
+use lib.Dec.{T, leb, ltb, leb→le, lit≤, lit<}
+use native.Mathlib.Decide.{decLe}
+use borrow.Author.Tests.{le-leb, lt-leb, lt-ltb, le-ltb}
 use lib.IntN.{ℤ, pos, negsuc, natAbs}
 use Rattle.pairs.proofs.Tests.{past-test}
 use Rattle.chain.specs.declared.enquiry.Enquiry.{Enquiry}
@@ -39,6 +40,17 @@ between least most n e =
 -- A number between its limits is not outside them.
 pub inside : (least most n : ℕ) → least ≤ n → n ≤ most → outside least most n ≡ false
 inside least most n l h = rw (le-leb least n l, le-leb n most h)
+
+-- The test in two: below the least, or by the most.
+pub outside-below : (least most n : ℕ) → n < least → true ≡ outside least most n
+outside-below least most n h = rw (lt-leb least n h)
+
+pub outside-by-most : (least most n : ℕ) → least ≤ n → ltb most n ≡ outside least most n
+outside-by-most least most n h =
+    elim (decLe n most) [
+      | yes k ↦ rw (le-leb least n h, le-leb n most k) (le-ltb most n k)
+      | no k ↦ let l : most < n = omega arith in rw (le-leb least n h, lt-leb n most l) (lt-ltb most n l)
+    ]
 
 three : (a b c : Bool) → not (not a && not b && not c) ≡ false → (a ≡ false) × (b ≡ false) × (c ≡ false)
 three false false false e = (refl, refl, refl)

@@ -132,7 +132,8 @@ module _ (A : Arithmetic) where
       (A .difference (atan A (A .root (A .quotient (g e) e))) (A .product (horizontal-ratio l e) (tilt l e)))
       (pi A)
 
-  -- Request 6: "the tilted face, the most exposed orientation": "Face 3 becomes the root of Fv·Fv + Fh·Fh." (003, equation 20)
+  -- Request 6: "the tilted face, the most exposed orientation": "Face 3 becomes the root of Fv·Fv + Fh·Fh." (003, equation 20) Of a target
+  -- above the base Fh is what is seen from above alone, so that a face that leans down can be more exposed.
   unfoldable pub most-exposed : A .Carrier → A .Carrier → A .Carrier
   most-exposed upright level = A .root (A .sum (A .product upright upright) (A .product level level))
 

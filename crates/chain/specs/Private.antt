@@ -12,7 +12,7 @@ use Rattle.pairs.specs.Series.{atan}
 use Rattle.chain.specs.declared.enquiry.Enquiry.{Enquiry}
 use Rattle.chain.specs.declared.enquiry.Printed.{Printed}
 use Rattle.chain.specs.declared.pool.PoolFlame.{PoolFlame}
-use Rattle.chain.specs.declared.factor.Rim.{Rim}
+use Rattle.chain.specs.declared.factor.DistanceTerms.{DistanceTerms}
 use Rattle.chain.specs.declared.factor.Upright.{Upright}
 use Rattle.chain.specs.declared.factor.Seen.{Seen}
 use Rattle.chain.specs.Chain as chain
@@ -48,7 +48,7 @@ pub record Spaced (e : Figures) : Type 0 where
   pub near : e .pair .high ≤ e .pair .low + 60_000
 
 -- What every face needs of e: g·g, e·e, e·g and r.
-pub record RimOf (s : Rim) : Type 0 where
+pub record DistanceTermsOf (s : DistanceTerms) : Type 0 where
   pub gg : figures (s .gg) ≡ answers .product (chain.g answers (figures (s .e))) (chain.g answers (figures (s .e)))
   pub ee : figures (s .ee) ≡ answers .product (figures (s .e)) (figures (s .e))
   pub eg : figures (s .eg) ≡ answers .product (figures (s .e)) (chain.g answers (figures (s .e)))

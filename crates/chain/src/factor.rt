@@ -20,7 +20,7 @@ ghost use Rattle.pairs.specs.Answers.{answers};
 ghost use Rattle.pairs.specs.Series.{atan};
 ghost use Rattle.chain.specs.Chain as chain;
 ghost use Rattle.chain.specs.Factor as alone;
-ghost use Rattle.chain.specs.Private.{Spaced, RimOf, UprightOf, SeenOf};
+ghost use Rattle.chain.specs.Private.{Spaced, DistanceTermsOf, UprightOf, SeenOf};
 
 // x = 1+e.
 fn x_of(e: Answer) -> Answer
@@ -37,7 +37,7 @@ fn g_of(e: Answer) -> Answer
 }
 
 // What every face needs of e: g·g, e·e, e·g and r = root(e/g).
-struct Rim {
+struct DistanceTerms {
     e: Answer,
     gg: Answer,
     ee: Answer,
@@ -45,15 +45,15 @@ struct Rim {
     r: Answer,
 }
 
-fn rim_of(e: Answer) -> Rim
-    ensures { λ r. ⌜ (r .e ≡ e) × RimOf r ⌝ }
+fn distance_terms(e: Answer) -> DistanceTerms
+    ensures { λ r. ⌜ (r .e ≡ e) × DistanceTermsOf r ⌝ }
 {
     let g = g_of(e);
     let gg = product_of(g, g);
     let ee = product_of(e, e);
     let eg = product_of(e, g);
     let r = root_of(quotient_of(e, g));
-    Rim { e, gg, ee, eg, r }
+    DistanceTerms { e, gg, ee, eg, r }
 }
 
 // What the vertical face needs besides: x, x·x, atan(r) and root(e·g).
@@ -65,13 +65,13 @@ struct Upright {
     root: Answer,
 }
 
-fn upright_of(rim: Rim) -> Upright
-    requires { ⌜ RimOf rim ⌝ }
-    ensures { λ r. ⌜ (r .e ≡ rim .e) × UprightOf r ⌝ }
+fn upright_of(terms: DistanceTerms) -> Upright
+    requires { ⌜ DistanceTermsOf terms ⌝ }
+    ensures { λ r. ⌜ (r .e ≡ terms .e) × UprightOf r ⌝ }
 {
-    let e = rim.e;
-    let eg = rim.eg;
-    let r = rim.r;
+    let e = terms.e;
+    let eg = terms.eg;
+    let r = terms.r;
     let x = x_of(e);
     let xx = product_of(x, x);
     let angle = atan_of(r);
@@ -100,13 +100,13 @@ struct Seen {
     tilt: Answer,
 }
 
-fn seen_at(y: Answer, rim: Rim) -> Seen
-    requires { ⌜ RimOf rim ⌝ }
-    ensures { λ r. ⌜ (r .y ≡ y) × SeenOf (rim .e) r ⌝ }
+fn seen_at(y: Answer, terms: DistanceTerms) -> Seen
+    requires { ⌜ DistanceTermsOf terms ⌝ }
+    ensures { λ r. ⌜ (r .y ≡ y) × SeenOf (terms .e) r ⌝ }
 {
-    let gg = rim.gg;
-    let ee = rim.ee;
-    let r = rim.r;
+    let gg = terms.gg;
+    let ee = terms.ee;
+    let r = terms.r;
     let yy = product_of(y, y);
     let u = root_of(sum_of(yy, gg));
     let v = root_of(sum_of(yy, ee));
@@ -159,20 +159,20 @@ fn vertical(seen: Seen, up: Upright) -> Answer
 }
 
 // The horizontal face, looking up (B.4).
-fn horizontal(seen: Seen, rim: Rim, angle: Answer) -> Answer
-    requires { ⌜ RimOf rim × SeenOf (rim .e) seen ⌝ }
-    requires { ⌜ figures angle ≡ atan answers (answers .root (answers .quotient (chain.g answers (figures (rim .e))) (figures (rim .e)))) ⌝ }
-    ensures { λ r. ⌜ figures r ≡ chain.horizontal answers (figures (seen .y)) (figures (rim .e)) ⌝ }
+fn horizontal(seen: Seen, terms: DistanceTerms, angle: Answer) -> Answer
+    requires { ⌜ DistanceTermsOf terms × SeenOf (terms .e) seen ⌝ }
+    requires { ⌜ figures angle ≡ atan answers (answers .root (answers .quotient (chain.g answers (figures (terms .e))) (figures (terms .e)))) ⌝ }
+    ensures { λ r. ⌜ figures r ≡ chain.horizontal answers (figures (seen .y)) (figures (terms .e)) ⌝ }
 {
     let yy = seen.yy;
     let product = seen.product;
     let tilt = seen.tilt;
-    let eg = rim.eg;
+    let eg = terms.eg;
     let ratio = quotient_of(sum_of(yy, eg), product);
     quotient_of(difference_of(angle, product_of(ratio, tilt)), pi_answer())
 }
 
-// The tilted face, the most exposed one: root(Fv·Fv + Fh·Fh).
+// The tilted face: root(Fv·Fv + Fh·Fh). It is the most exposed one of a target at or below the base; above it Fh looks up only.
 fn most_exposed(upright: Answer, level: Answer) -> Answer
     ensures { λ r. ⌜ figures r ≡ chain.most-exposed answers (figures upright) (figures level) ⌝ }
 {
@@ -193,71 +193,80 @@ fn is_zero(a: Answer) -> bool
 }
 
 // The vertical face at y: that of [0, 0] is [0, 0] and is not worked.
-fn vertical_at(y: Answer, rim: Rim, up: Upright) -> Answer
-    requires { ⌜ RimOf rim × UprightOf up ⌝ }
-    requires { ⌜ up .e ≡ rim .e ⌝ }
-    requires { ⌜ Spaced (figures (rim .e)) ⌝ }
-    ensures { λ r. ⌜ figures r ≡ chain.vertical answers (figures y) (figures (rim .e)) ⌝ }
+fn vertical_at(y: Answer, terms: DistanceTerms, up: Upright) -> Answer
+    requires { ⌜ DistanceTermsOf terms × UprightOf up ⌝ }
+    requires { ⌜ up .e ≡ terms .e ⌝ }
+    requires { ⌜ Spaced (figures (terms .e)) ⌝ }
+    ensures { λ r. ⌜ figures r ≡ chain.vertical answers (figures y) (figures (terms .e)) ⌝ }
 {
     if is_zero(y) {
         return exact(0);
     }
-    vertical(seen_at(y, rim), up)
+    vertical(seen_at(y, terms), up)
 }
 
 // f(h) + f(l-h) - f(h-l), from f(l-h).
-fn vertical_above(between: Answer, l: Answer, h: Answer, rim: Rim, up: Upright) -> Answer
-    requires { ⌜ RimOf rim × UprightOf up ⌝ }
-    requires { ⌜ up .e ≡ rim .e ⌝ }
-    requires { ⌜ Spaced (figures (rim .e)) ⌝ }
-    requires { ⌜ figures between ≡ chain.vertical answers (answers .difference (figures l) (figures h)) (figures (rim .e)) ⌝ }
-    ensures { λ r. ⌜ figures r ≡ chain.vertical-above answers (figures l) (figures h) (figures (rim .e)) ⌝ }
+fn vertical_above(
+    between: Answer,
+    l: Answer,
+    h: Answer,
+    terms: DistanceTerms,
+    up: Upright,
+) -> Answer
+    requires { ⌜ DistanceTermsOf terms × UprightOf up ⌝ }
+    requires { ⌜ up .e ≡ terms .e ⌝ }
+    requires { ⌜ Spaced (figures (terms .e)) ⌝ }
+    requires { ⌜ figures between ≡ chain.vertical answers (answers .difference (figures l) (figures h)) (figures (terms .e)) ⌝ }
+    ensures { λ r. ⌜ figures r ≡ chain.vertical-above answers (figures l) (figures h) (figures (terms .e)) ⌝ }
 {
     difference_of(
-        sum_of(vertical_at(h, rim, up), between),
-        vertical_at(difference_of(h, l), rim, up),
+        sum_of(vertical_at(h, terms, up), between),
+        vertical_at(difference_of(h, l), terms, up),
     )
 }
 
 // A target from the base up.
-fn factor_above(face: u8, l: Answer, h: Answer, rim: Rim) -> Answer
-    requires { ⌜ RimOf rim ⌝ }
-    requires { ⌜ Spaced (figures (rim .e)) ⌝ }
-    ensures { λ r. ⌜ figures r ≡ chain.factor-at answers true face (figures l) (figures h) (figures (rim .e)) ⌝ }
+fn factor_above(face: u8, l: Answer, h: Answer, terms: DistanceTerms) -> Answer
+    requires { ⌜ DistanceTermsOf terms ⌝ }
+    requires { ⌜ Spaced (figures (terms .e)) ⌝ }
+    ensures { λ r. ⌜ figures r ≡ chain.factor-at answers true face (figures l) (figures h) (figures (terms .e)) ⌝ }
 {
     let between = difference_of(l, h);
     if face == 1 {
-        let up = upright_of(rim);
-        return vertical_above(vertical_at(between, rim, up), l, h, rim, up);
+        let up = upright_of(terms);
+        return vertical_above(vertical_at(between, terms, up), l, h, terms, up);
     }
-    let seen = seen_at(between, rim);
-    let e = rim.e;
-    let level = horizontal(seen, rim, level_angle(e));
+    let seen = seen_at(between, terms);
+    let e = terms.e;
+    let level = horizontal(seen, terms, level_angle(e));
     if face == 2 {
         return level;
     }
-    let up = upright_of(rim);
-    most_exposed(vertical_above(vertical(seen, up), l, h, rim, up), level)
+    let up = upright_of(terms);
+    most_exposed(vertical_above(vertical(seen, up), l, h, terms, up), level)
 }
 
 // A target below the base: f(l+h) - f(h).
-fn factor_below(face: u8, l: Answer, h: Answer, rim: Rim) -> Answer
-    requires { ⌜ RimOf rim ⌝ }
-    ensures { λ r. ⌜ figures r ≡ chain.factor-at answers false face (figures l) (figures h) (figures (rim .e)) ⌝ }
+fn factor_below(face: u8, l: Answer, h: Answer, terms: DistanceTerms) -> Answer
+    requires { ⌜ DistanceTermsOf terms ⌝ }
+    ensures { λ r. ⌜ figures r ≡ chain.factor-at answers false face (figures l) (figures h) (figures (terms .e)) ⌝ }
 {
-    let top = seen_at(sum_of(l, h), rim);
-    let base = seen_at(h, rim);
+    let top = seen_at(sum_of(l, h), terms);
+    let base = seen_at(h, terms);
     if face == 1 {
-        let up = upright_of(rim);
+        let up = upright_of(terms);
         return difference_of(vertical(top, up), vertical(base, up));
     }
-    let e = rim.e;
+    let e = terms.e;
     let angle = level_angle(e);
-    let level = difference_of(horizontal(top, rim, angle), horizontal(base, rim, angle));
+    let level = difference_of(
+        horizontal(top, terms, angle),
+        horizontal(base, terms, angle),
+    );
     if face == 2 {
         return level;
     }
-    let up = upright_of(rim);
+    let up = upright_of(terms);
     most_exposed(difference_of(vertical(top, up), vertical(base, up)), level)
 }
 
@@ -266,11 +275,11 @@ pub(crate) fn factor_at(above: bool, face: u8, l: Answer, h: Answer, e: Answer) 
     requires { ⌜ Spaced (figures e) ⌝ }
     ensures { λ r. ⌜ figures r ≡ chain.factor-at answers above face (figures l) (figures h) (figures e) ⌝ }
 {
-    let rim = rim_of(e);
+    let terms = distance_terms(e);
     if above {
-        return factor_above(face, l, h, rim);
+        return factor_above(face, l, h, terms);
     }
-    factor_below(face, l, h, rim)
+    factor_below(face, l, h, terms)
 }
 
 // The factor from l and e in trillionths, with limits of its own: that of a target level with the base.

@@ -12,3 +12,6 @@ pub mod Terms
 pub mod Turns
 pub mod Refusals
 pub mod Lifted
+pub mod Covers
+pub mod WholeRoot
+pub mod PiPair

@@ -11,8 +11,9 @@ use Rattle.pairs.specs.declared.answer.Pair.{Pair}
 use Rattle.pairs.specs.declared.answer.Answer.{Answer}
 use Rattle.pairs.specs.declared.answer.Answer.the-variants.{Is, Disordered, ZeroDivisor, OutOfSpan, TooLarge}
 use Rattle.pairs.specs.Rounded.{ends}
-use Rattle.pairs.specs.Figures.{Figures, refused, figures, after}
-use Rattle.pairs.specs.Answers.{on-one, on-two}
+use Rattle.pairs.specs.Figures.{Figures, given, refused, figures, after}
+use Rattle.pairs.specs.Answers.{quotient-of, over-of, root-of, on-one, on-two, quotient, over, root}
+use Rattle.pairs.proofs.Agreement.{after-passed}
 
 -- What is known of an answer that is no pair: its tag is one of the refusals'.
 abbrev pub Refused : Answer → Type 0
@@ -50,3 +51,22 @@ gives-one f a p r e h = rw e h
 
 pub gives-two : (f : Pair → Pair → Figures) (a b : Answer) (p q : Pair) (r : Figures) → a ≡ Is p → b ≡ Is q → r ≡ f p q → r ≡ on-two f (figures a) (figures b)
 gives-two f a b p q r e g h = rw (e, g) h
+
+-- The other way: an operation on answers that is not refused was handed pairs.
+abbrev pub Handed : (Pair → Figures) → Figures → Figures → Type 0
+Handed f a r = (a .number ≡ 0) × (r ≡ f (a .pair))
+
+handed : (f : Pair → Figures) (a : Figures) → (on-one f a) .number ≡ 0 → Handed f a (on-one f a)
+handed f a z = let p = after-passed a (f (a .pair)) z in (p .first, p .same)
+
+pub root-handed : (a : Figures) → (root a) .number ≡ 0 → Handed root-of a (root a)
+unfolding root
+root-handed a = handed root-of a
+
+pub over-handed : (a : Figures) (n : ℕ) → (over a n) .number ≡ 0 → Handed (λ p. over-of p n) a (over a n)
+unfolding over
+over-handed a n = handed (λ p. over-of p n) a
+
+pub quotient-given : (p q : Pair) → quotient (given p) (given q) ≡ quotient-of p q
+unfolding quotient
+quotient-given p q = refl

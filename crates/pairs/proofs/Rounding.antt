@@ -1,9 +1,14 @@
 -- A quotient rounded down and rounded up: what each covers, and that both grow with the number and fall with the divisor.
 -- By the law of division with rest. Assumes nothing.
-use Prim.Native.Nat.{ℕ, zero, suc, _+_, _*_, _-_, _≤_, _<_, zero-le}
+use mathlib.Core.Path.{_≡_, refl}
+use Prim.Native.Nat.{ℕ, zero, suc, _+_, _*_, _-_, _/_, _≤_, _<_, zero-le}
 use native.Mathlib.Nat.{le-trans, mul-le-mul-left, le-of-mul-le-mul-right, mod-lt, div-add-mod', div-lt-iff-lt-mul, le-div-iff-mul-le, div-mul-le-self, lt-div-mul-add, suc-mul, div-zero, zero-lt-suc}
 use native.Mathlib.Omega.{arith}
 use Rattle.pairs.specs.Rounded.{down, up}
+
+pub up-by : (n d : ℕ) → (n + (d - 1)) / d ≡ up n d
+unfolding up
+up-by n d = refl
 
 pub up-covers : (n d : ℕ) → zero < d → n ≤ up n d * d
 unfolding up

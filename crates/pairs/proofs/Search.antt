@@ -1,9 +1,9 @@
 -- The greatest and the least number that passes a test, and the roots that they name: what passes, what is bounded, and the
 -- law that names each without a search. By induction over the search; a power that grows bounds its roots. Assumes nothing.
-use mathlib.Core.Path.{_≡_, refl, subst}
+use mathlib.Core.Path.{_≡_, refl, sym, subst}
 use mathlib.Core.Bool.{Bool, true, false}
-use Prim.Native.Nat.{ℕ, zero, suc, _+_, _*_, _-_, _≤_, _<_, zero-le}
-use native.Mathlib.Nat.{le-trans, le-refl, lt-of-not-le, not-le-of-lt, not-suc-le-self, mul-le-mul, mul-le-mul-left, mul-le-mul-right, mul-comm}
+use Prim.Native.Nat.{ℕ, zero, suc, _+_, _*_, _-_, _/_, _≤_, _<_, zero-le}
+use native.Mathlib.Nat.{le-trans, le-refl, lt-of-not-le, not-le-of-lt, not-suc-le-self, mul-le-mul, mul-le-mul-left, mul-le-mul-right, mul-comm, mul-assoc, suc-mul, le-of-mul-le-mul-right, div-mul-le-self, lt-div-mul-add}
 use native.Mathlib.Decide.{decLe}
 use native.Mathlib.Omega.{arith}
 use lib.Dec.{T, leb, leb→le, le→leb, lit<}
@@ -70,6 +70,25 @@ module _ (f : ℕ → Bool) where
   least-bound (suc n) x t =
       by-test (λ c. c ≤ x) (f (least f n)) _ _ (λ p. least-bound n x t)
       (λ p. elim (decLe x n) [ yes l ↦ absurd (p (least-passes n x l t)) | no l ↦ lt-of-not-le l ])
+
+  -- Below n it passes; and it is the first that does, or n.
+  pub least-reached : (n : ℕ) → least f n < n → T (f (least f n))
+  unfolding least
+  least-reached zero h = absurd (omega arith)
+  least-reached (suc n) h = by-test (λ c. c < suc n → T (f c)) (f (least f n)) _ _ (λ p l. p) (λ p l. absurd (omega arith)) h
+
+  pub least-first : (n s : ℕ) → s ≤ n → T (f s) → ((x : ℕ) → x < s → T (f x) → ⊥) → least f n ≡ s
+  least-first n s h t before =
+      let g = least f n in
+      let above : g ≤ s = least-bound n s t in
+      let below : s < suc g = lt-of-not-le (λ l. before g l (least-passes n s h t)) in
+      omega arith
+
+  pub least-none : (n : ℕ) → ((x : ℕ) → x < n → T (f x) → ⊥) → least f n ≡ n
+  least-none n none =
+      let within : least f n ≤ n = least-within n in
+      let last : n < suc (least f n) = lt-of-not-le (λ l. none (least f n) l (least-reached n l)) in
+      omega arith
 
   pub least-is : Upward f → (n s : ℕ) → suc s ≤ n → T (f (suc s)) → (T (f s) → ⊥) → least f n ≡ suc s
   least-is w n s h t before =
@@ -157,6 +176,30 @@ root-down-next n = next-fails (root-down-bound n (suc (root-down n)))
 pub root-down-is : (n s : ℕ) → s * s ≤ n → n < suc s * suc s → root-down n ≡ s
 unfolding root-down square
 root-down-is n s h k = down-is square square-grows n n (square-within n) s h k
+
+-- The root of n·k·k, over k, is that of n.
+module _ (n k : ℕ) (p : zero < k) where
+  abbrev t : ℕ
+  t = root-down (n * (k * k))
+
+  squares : (s : ℕ) → s * k * (s * k) ≡ s * s * (k * k)
+  squares s = rw (mul-assoc s k (s * k), ← mul-assoc k s k, mul-comm k s, mul-assoc s k k, ← mul-assoc s s (k * k))
+
+  scaled-passes : t / k * (t / k) ≤ n
+  scaled-passes =
+      le-of-mul-le-mul-right
+      (rw (← squares (t / k)) (le-trans (mul-le-mul (div-mul-le-self t k) (div-mul-le-self t k)) (root-down-passes (n * (k * k)))))
+      (le-trans p (self-square k))
+
+  scaled-next : n < suc (t / k) * suc (t / k)
+  scaled-next =
+      let next : suc t ≤ suc (t / k) * k = omega (arith, lt-div-mul-add {a = t} p, suc-mul (t / k) k) in
+      lt-of-not-le
+      (λ l.
+      not-le-of-lt (root-down-next (n * (k * k))) (le-trans (mul-le-mul next next) (rw (squares (suc (t / k))) (mul-le-mul-right (k * k) l))))
+
+  pub root-down-scaled : root-down (n * (k * k)) / k ≡ root-down n
+  root-down-scaled = sym (root-down-is n (t / k) scaled-passes scaled-next)
 
 pub root-up-passes : (n : ℕ) → n ≤ root-up n * root-up n
 unfolding root-up square

@@ -17,24 +17,24 @@ same :
     → chain.factor-at answers a face l h (figures d) ≡ chain.factor-at answers b face l h (figures e)
 same face l h p q = λ i. chain.factor-at answers (p i) face l h (figures (q i))
 
-rim-of-requires : tie.Need-rim-of-requires
-rim-of-requires c κs = search needs
+distance-terms-requires : tie.Need-distance-terms-requires
+distance-terms-requires c κs = search needs
 
 factor-above-requires : tie.Need-factor-above-requires
 factor-above-requires c κs =
-    let rim = c .before .rim-of .ensures in
-    (rim .1, subst (λ (e : Answer). Spaced (figures e)) (sym (rim .0)) (c .before .before .pre))
+    let terms = c .before .distance-terms .ensures in
+    (terms .1, subst (λ (e : Answer). Spaced (figures e)) (sym (terms .0)) (c .before .before .pre))
 
 returns : tie.Need-returns
-returns c = c .factor-above .ensures ∙ same _ _ _ (sym (c .before .if1 .taken)) (c .before .before .rim-of .ensures .0)
+returns c = c .factor-above .ensures ∙ same _ _ _ (sym (c .before .if1 .taken)) (c .before .before .distance-terms .ensures .0)
 
 factor-below-requires : tie.Need-factor-below-requires
 factor-below-requires c κs = search needs
 
 returns-2 : tie.Need-returns-2
-returns-2 c = c .factor-below .ensures ∙ same _ _ _ (sym (c .before .if1 .left)) (c .before .before .rim-of .ensures .0)
+returns-2 c = c .factor-below .ensures ∙ same _ _ _ (sym (c .before .if1 .left)) (c .before .before .distance-terms .ensures .0)
 
 pub factor-at-spec : {M : Type 1} → statement M
 factor-at-spec =
     tie.close
-    (tie.spec rim-of-requires factor-above-requires returns factor-below-requires returns-2)
+    (tie.spec distance-terms-requires factor-above-requires returns factor-below-requires returns-2)

@@ -30,9 +30,9 @@ unfolding chain.horizontal chain.horizontal-ratio
 returns c =
     let t = c .before .before .before in
     let s = t .before .before in
-    let rim = s .before .pre .0 .0 in
+    let terms = s .before .pre .0 .0 in
     let seen = s .before .pre .0 .1 in
-    let squares = s .sum-of .ensures ∙ ap₂ A.sum (seen .yy) (rim .eg) in
+    let squares = s .sum-of .ensures ∙ ap₂ A.sum (seen .yy) (terms .eg) in
     let ratio = t .before .quotient-of .ensures ∙ ap₂ A.quotient squares (seen .product) in
     let tilted = t .product-of .ensures ∙ ap₂ A.product ratio (seen .tilt) in
     let left = c .before .before .difference-of .ensures ∙ ap₂ A.difference (s .before .pre .1) tilted in

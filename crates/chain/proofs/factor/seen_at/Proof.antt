@@ -40,11 +40,11 @@ unfolding chain.u chain.v chain.tilt
 returns c =
     let s = c .before .before .before in
     let t = s .before .before .before in
-    let rim = t .before .before .before .pre in
+    let terms = t .before .before .before .pre in
     let yy = t .before .before .product-of .ensures in
-    let u = t .root-of .ensures ∙ ap A.root (t .before .sum-of .ensures ∙ ap₂ A.sum yy (rim .gg)) in
-    let v = s .before .root-of2 .ensures ∙ ap A.root (s .before .before .sum-of2 .ensures ∙ ap₂ A.sum yy (rim .ee)) in
-    let over-v = c .before .quotient-of .ensures ∙ ap₂ A.quotient (c .before .before .product-of3 .ensures ∙ ap₂ A.product (rim .r) u) v in (
+    let u = t .root-of .ensures ∙ ap A.root (t .before .sum-of .ensures ∙ ap₂ A.sum yy (terms .gg)) in
+    let v = s .before .root-of2 .ensures ∙ ap A.root (s .before .before .sum-of2 .ensures ∙ ap₂ A.sum yy (terms .ee)) in
+    let over-v = c .before .quotient-of .ensures ∙ ap₂ A.quotient (c .before .before .product-of3 .ensures ∙ ap₂ A.product (terms .r) u) v in (
       refl,
       record {
         yy = yy;

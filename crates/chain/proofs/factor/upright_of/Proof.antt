@@ -23,13 +23,13 @@ returns : tie.Need-returns
 returns c =
     let s = c .before .before in
     let x = s .before .x-of .ensures in
-    let rim = s .before .before .pre in (
+    let terms = s .before .before .pre in (
       refl,
       record {
         x = x;
         xx = s .product-of .ensures ∙ ap₂ A.product x x;
-        angle = c .before .atan-of .ensures ∙ ap (atan A.answers) (rim .r);
-        root = c .root-of .ensures ∙ ap A.root (rim .eg);
+        angle = c .before .atan-of .ensures ∙ ap (atan A.answers) (terms .r);
+        root = c .root-of .ensures ∙ ap A.root (terms .eg);
       },
     )
 

@@ -33,8 +33,8 @@ unfolding chain.flame-surface
 returns c =
     let s = c .before .before .before in
     let pi = s .before .before .before .pi-answer .ensures in
-    let rim = s .before .before .product-of .ensures ∙ ap₂ A.product pi refl in
-    let side = s .before .product-of2 .ensures ∙ ap₂ A.product rim refl in
+    let circumference = s .before .before .product-of .ensures ∙ ap₂ A.product pi refl in
+    let side = s .before .product-of2 .ensures ∙ ap₂ A.product circumference refl in
     let square = s .product-of3 .ensures in
     let top = c .before .over-of .ensures ∙ ap₂ A.over (c .before .before .product-of4 .ensures ∙ ap₂ A.product pi square) refl in
     c .sum-of .ensures ∙ ap₂ A.sum side top

@@ -1,6 +1,6 @@
 -- `root` meets its contract: 61, then the roots of both ends, which are never too large.
 -- Assumes nothing.
-use mathlib.Core.Path.{_≡_, refl}
+use mathlib.Core.Path.{_≡_}
 use Prim.Native.Nat.{ℕ, _*_, _-_, _^_, _≤_, _<_}
 use native.Mathlib.Omega.{arith}
 use Rattle.pairs.specs.declared.answer.Pair.{Pair}
@@ -8,21 +8,15 @@ use Rattle.pairs.specs.Rounded as rounded
 use Rattle.pairs.specs.Rounded.{U, ends, root-down, root-up}
 use Rattle.pairs.specs.Figures.{given}
 use Rattle.pairs.specs.Answers.{root-of}
-use Rattle.pairs.proofs.Search.{root-up-bound}
 use Rattle.pairs.proofs.Turned.{root-turned}
+use Rattle.pairs.proofs.WholeRoot.{root-given}
 use borrow.Author.Needs.{needs}
 use Rattle.pairs.proofs.root.root.Statement.{statement}
 use Rattle.pairs.proofs.root.root.Tie as tie
 
 answered : (p : Pair) (l h : ℕ) → p .low ≤ p .high → p .high < 2 ^ 64 → l ≡ root-down (p .low * U) → h ≡ root-up (p .high * U) → given (ends l h) ≡ root-of p
 unfolding rounded.root
-answered p l h o f e g = rw (e, g) (root-turned p .is o refl (short (p .high) f))
-  where
-    square : (b : ℕ) → b < 2 ^ 64 → b * U ≤ 2 ^ 63 * 2 ^ 63
-    square b f = omega arith
-
-    short : (b : ℕ) → b < 2 ^ 64 → root-up (b * U) < 2 ^ 64
-    short b f = let k : root-up (b * U) ≤ 2 ^ 63 = root-up-bound (b * U) (2 ^ 63) (square b f) in omega arith
+answered p l h o f e g = rw (e, g) (root-given p o f)
 
 returns : tie.Need-returns
 returns c = root-turned _ .is-61 (omega arith)

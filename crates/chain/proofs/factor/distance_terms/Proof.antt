@@ -1,11 +1,11 @@
--- `rim_of` meets its contract: the step's operations, one by one.
+-- `distance_terms` meets its contract: the step's operations, one by one.
 -- Assumes nothing.
 use mathlib.Core.Path.{refl, ap, ap₂, _∙_}
 use Rattle.pairs.specs.Answers as A
 use Rattle.chain.specs.Chain as chain
 use borrow.Author.Needs.{needs}
-use Rattle.chain.proofs.factor.rim_of.Statement.{statement}
-use Rattle.chain.proofs.factor.rim_of.Tie as tie
+use Rattle.chain.proofs.factor.distance_terms.Statement.{statement}
+use Rattle.chain.proofs.factor.distance_terms.Tie as tie
 
 g-of-requires : tie.Need-g-of-requires
 g-of-requires c κs = search needs
@@ -39,8 +39,8 @@ returns c =
       },
     )
 
-pub rim-of-spec : {M : Type 1} → statement M
-rim-of-spec =
+pub distance-terms-spec : {M : Type 1} → statement M
+distance-terms-spec =
     tie.close
     (tie.spec
     g-of-requires
