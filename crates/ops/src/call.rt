@@ -1,20 +1,26 @@
 // What a line names, on its numbers.
-use crate::enquiry::enquiry;
-use crate::enquiry::factor_alone;
+use crate::enquiry::factor_of;
+use crate::enquiry::flux_of;
+use crate::from_limit::free_place_of;
+use crate::from_limit::stand_off_of;
 use crate::line::Numbers;
-use crate::stand_off::stand_off_of;
+use crate::shape::has_shape;
+use crate::shape::number_at;
 use chain::enquiry::Factor;
 use chain::enquiry::Flux;
 use check::same;
 use pairs::answer::Answer;
 use pairs::answer::Pair;
+use planning::free_place::FreePlace;
 use planning::stand_off::StandOff;
+ghost use Prim.Native.Nat.{_≤_};
 
 pub(crate) enum Reply {
     Operation(Answer),
     Enquiry(Flux),
     FactorAlone(Factor),
     StandOff(StandOff),
+    FreePlace(FreePlace),
     Unreadable,
 }
 
@@ -76,43 +82,46 @@ fn constant(name: &[u8]) -> Reply {
     Reply::Unreadable
 }
 
-// A pair operation: on two pairs, a pair and a whole number, a pair, or nothing.
-fn operation(name: &[u8], count: usize, values: [u64; 9]) -> Reply {
-    let p = Pair {
-        low: values[0],
-        high: values[1],
-    };
-    match count {
-        0 => constant(name),
-        2 => of_one_pair(name, p),
-        3 => by_whole_number(name, p, values[2]),
-        4 => of_two_pairs(
-            name,
-            p,
-            Pair {
-                low: values[2],
-                high: values[3],
-            },
-        ),
-        _ => Reply::Unreadable,
+// The pair whose ends stand at a place of the line and after it.
+fn pair_at(ns: Numbers, at: usize) -> Pair
+    requires { ⌜ at ≤ 13 ⌝ }
+{
+    Pair {
+        low: number_at(ns, at),
+        high: number_at(ns, at + 1),
     }
 }
 
-// The enquiry, the factor, the stand-off or the operation of this name on these numbers.
-pub(crate) fn called(name: &[u8], ns: Numbers) -> Reply {
-    if !ns.readable {
-        return Reply::Unreadable;
+// A pair operation: on two pairs, a pair and a whole number, a pair, or nothing.
+fn operation(name: &[u8], ns: Numbers) -> Reply {
+    if has_shape(ns, b"") {
+        return constant(name);
     }
-    let count = ns.count;
-    let values = ns.values;
+    if has_shape(ns, b"ll") {
+        return of_one_pair(name, pair_at(ns, 0));
+    }
+    if has_shape(ns, b"lll") {
+        return by_whole_number(name, pair_at(ns, 0), number_at(ns, 2));
+    }
+    if has_shape(ns, b"llll") {
+        return of_two_pairs(name, pair_at(ns, 0), pair_at(ns, 2));
+    }
+    Reply::Unreadable
+}
+
+// The enquiry, the factor, the stand-off, the free place or the operation of this name on these numbers.
+pub(crate) fn called(name: &[u8], ns: Numbers) -> Reply {
     if same(name, b"flux") {
-        return enquiry(count, values, ns.negative);
+        return flux_of(ns);
     }
     if same(name, b"factor") {
-        return factor_alone(count, values);
+        return factor_of(ns);
     }
     if same(name, b"standoff") {
-        return stand_off_of(count, values, ns.negative);
+        return stand_off_of(ns);
     }
-    operation(name, count, values)
+    if same(name, b"place") {
+        return free_place_of(ns);
+    }
+    operation(name, ns)
 }

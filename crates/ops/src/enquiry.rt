@@ -1,55 +1,45 @@
-// An enquiry, and a factor alone. A number too large for its type makes the line unreadable.
+// Lines that ask for a flux or a factor, and the reader of an enquiry's numbers in every line that has them.
 use crate::call::Reply;
-use crate::height::Height;
-use crate::height::height_of;
+use crate::line::Numbers;
+use crate::shape::byte_at;
+use crate::shape::half_at;
+use crate::shape::has_shape;
+use crate::shape::number_at;
+use crate::shape::signed_at;
+use crate::shape::word_at;
 use chain::enquiry::Enquiry;
+ghost use Prim.Native.Nat.{_≤_};
 
-// The numbers m k c a method d face transmissivity of a line, with its height.
-fn at_height(values: [u64; 9], height: i32) -> Reply {
-    let m = values[0];
-    let k = values[1];
-    let c = values[2];
-    let a = values[3];
-    let method = values[4];
-    let d = values[5];
-    let face = values[6];
-    let transmissivity = values[8];
-    if 65_535 < m || 65_535 < k || 65_535 < c || 65_535 < transmissivity {
-        return Reply::Unreadable;
+// An enquiry at a distance: m k c a method from one place of the line on, face height transmissivity from another.
+pub(crate) fn enquiry_in(ns: Numbers, pool: usize, target: usize, distance: u32) -> Enquiry
+    requires { ⌜ (pool ≤ 13) × (target ≤ 13) ⌝ }
+{
+    Enquiry {
+        rate: half_at(ns, pool),
+        absorption: half_at(ns, pool + 1),
+        heat: half_at(ns, pool + 2),
+        area: word_at(ns, pool + 3),
+        method: byte_at(ns, pool + 4),
+        distance,
+        face: byte_at(ns, target),
+        height: signed_at(ns, target + 1),
+        transmissivity: half_at(ns, target + 2),
     }
-    if 4_294_967_295 < a || 255 < method || 4_294_967_295 < d || 255 < face {
-        return Reply::Unreadable;
-    }
-    Reply::Enquiry(chain::flux::flux(Enquiry {
-        rate: m as u16,
-        absorption: k as u16,
-        heat: c as u16,
-        area: a as u32,
-        method: method as u8,
-        distance: d as u32,
-        face: face as u8,
-        height,
-        transmissivity: transmissivity as u16,
-    }))
 }
 
 // A line `flux m k c a method d face height transmissivity`.
-pub(crate) fn enquiry(count: usize, values: [u64; 9], negative: bool) -> Reply {
-    if count != 9 {
+pub(crate) fn flux_of(ns: Numbers) -> Reply {
+    if !has_shape(ns, b"hhhwbwbsh") {
         return Reply::Unreadable;
     }
-    let read = height_of(values[7], negative);
-    match read {
-        Height::Is(height) => at_height(values, height),
-        Height::TooLarge => Reply::Unreadable,
-    }
+    let distance = word_at(ns, 5);
+    Reply::Enquiry(chain::flux::flux(enquiry_in(ns, 0, 6, distance)))
 }
 
 // A line `factor l e face`.
-pub(crate) fn factor_alone(count: usize, values: [u64; 9]) -> Reply {
-    let face = values[2];
-    if count != 3 || 255 < face {
+pub(crate) fn factor_of(ns: Numbers) -> Reply {
+    if !has_shape(ns, b"llb") {
         return Reply::Unreadable;
     }
-    Reply::FactorAlone(chain::factor::factor(values[0], values[1], face as u8))
+    Reply::FactorAlone(chain::factor::factor(number_at(ns, 0), number_at(ns, 1), byte_at(ns, 2)))
 }

@@ -2,25 +2,23 @@
 ghost use Prim.Native.Nat.{_≤_};
 ghost use lib.ListN.{length};
 
-// The numbers of a line, in its order, at most nine; the eighth, a height, may have a sign. A line that cannot be read is not readable,
-// whatever follows.
+// The numbers of a line, in its order, at most 14; each may have a sign. A line that cannot be read is not readable, whatever follows.
 pub(crate) struct Numbers {
     pub(crate) readable: bool,
     // whether a blank or a sign was the last byte: a digit is to follow
     pub(crate) awaited: bool,
-    // whether the eighth has a sign
-    pub(crate) negative: bool,
     pub(crate) count: usize,
-    pub(crate) values: [u64; 9],
+    pub(crate) values: [u64; 14],
+    pub(crate) signs: [bool; 14],
 }
 
 fn no_numbers() -> Numbers {
     Numbers {
         readable: true,
         awaited: false,
-        negative: false,
         count: 0,
-        values: [0; 9],
+        values: [0; 14],
+        signs: [false; 14],
     }
 }
 
@@ -34,7 +32,7 @@ fn with_blank(mut ns: Numbers) -> Numbers {
     if ns.awaited {
         return unreadable(ns);
     }
-    if 8 < ns.count {
+    if 13 < ns.count {
         return unreadable(ns);
     }
     ns.awaited = true;
@@ -42,12 +40,20 @@ fn with_blank(mut ns: Numbers) -> Numbers {
     ns
 }
 
-// A sign: before the digits of the eighth number, and once.
+// A sign: before the digits of a number, and once.
 fn with_sign(mut ns: Numbers) -> Numbers {
-    if ns.count != 8 || !ns.awaited || ns.negative {
+    let count = ns.count;
+    if count == 0 || !ns.awaited {
         return unreadable(ns);
     }
-    ns.negative = true;
+    let at = count - 1;
+    if 13 < at {
+        return unreadable(ns);
+    }
+    if ns.signs[at] {
+        return unreadable(ns);
+    }
+    ns.signs[at] = true;
     ns
 }
 
@@ -58,7 +64,7 @@ fn with_digit(mut ns: Numbers, digit: u64) -> Numbers {
         return unreadable(ns);
     }
     let at = count - 1;
-    if 8 < at {
+    if 13 < at {
         return unreadable(ns);
     }
     let value = ns.values[at];

@@ -1,10 +1,11 @@
 // Reads lines, each a name and its numbers, and prints what is answered: the state (0, or the number of the refusal), for a stand-off the
-// distance in decimetres, the two ends, and for an enquiry the note. A line that cannot be read prints `unreadable`.
+// distance in decimetres, for a free place its row and place, the two ends, and for an enquiry the note. A line that cannot be read prints
+// `unreadable`.
 mod call;
 mod enquiry;
-mod height;
+mod from_limit;
 mod line;
-mod stand_off;
+mod shape;
 
 use call::Reply;
 use call::called;
@@ -17,6 +18,7 @@ use libc::STDOUT_FILENO;
 use line::numbers_in;
 use line::place_of;
 use pairs::answer::Answer;
+use planning::free_place::FreePlace;
 use planning::stand_off::StandOff;
 
 // 21 to 23 of document 01.
@@ -86,12 +88,37 @@ fn print_stand_off(s: StandOff) {
     }
 }
 
+fn print_place(state: u64, row: u64, place: u64, low: u64, high: u64) {
+    io::print_decimal(STDOUT_FILENO, state);
+    print_after_blank(row);
+    print_after_blank(place);
+    print_after_blank(low);
+    print_after_blank(high);
+}
+
+// 42 of document 02, the flux's own, then 43.
+fn print_free_place(f: FreePlace) {
+    match f {
+        FreePlace::Is(p) => print_place(
+            0,
+            p.row as u64,
+            p.place as u64,
+            p.low as u64,
+            p.high as u64,
+        ),
+        FreePlace::Refused(why) => print_place(number(why) as u64, 0, 0, 0, 0),
+        FreePlace::OutsideLimits => print_place(42, 0, 0, 0, 0),
+        FreePlace::Nowhere => print_place(43, 0, 0, 0, 0),
+    }
+}
+
 fn print_reply(r: Reply) {
     match r {
         Reply::Operation(a) => print_operation(a),
         Reply::Enquiry(f) => print_flux(f),
         Reply::FactorAlone(f) => print_factor(f),
         Reply::StandOff(s) => print_stand_off(s),
+        Reply::FreePlace(f) => print_free_place(f),
         Reply::Unreadable => {
             io::write_all(STDOUT_FILENO, b"unreadable");
         }
