@@ -1,12 +1,12 @@
 //! Times the operations on pairs, compiled from Rattle, beside Rust's u128 on the same random sequence, and compares their check sums;
-//! then whole sheets, then stand-offs.
+//! then whole sheets, then answers from a limit.
 //! The arguments are the compiled programs `speed` and `ops`.
 
+mod from_limit;
 mod plain;
 #[path = "../../compare/src/proved.rs"]
 mod proved;
 mod sheets;
-mod stand_offs;
 
 use plain::{Answer, Pair};
 use std::hint::black_box;
@@ -119,8 +119,8 @@ fn main() {
         std::process::exit(1);
     }
     println!("All bytes agree.\n");
-    if !stand_offs::table(&ops) {
+    if !from_limit::table(&ops) {
         std::process::exit(1);
     }
-    println!("All stand-offs agree.");
+    println!("All answers agree.");
 }
