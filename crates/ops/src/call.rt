@@ -13,6 +13,8 @@ use pairs::answer::Answer;
 use pairs::answer::Pair;
 use planning::free_place::FreePlace;
 use planning::stand_off::StandOff;
+use register::calls::Outcome;
+use register::sums::Totals;
 ghost use Prim.Native.Nat.{_≤_};
 
 pub(crate) enum Reply {
@@ -21,6 +23,7 @@ pub(crate) enum Reply {
     FactorAlone(Factor),
     StandOff(StandOff),
     FreePlace(FreePlace),
+    Register(Outcome, Totals),
     Unreadable,
 }
 

@@ -5,6 +5,7 @@ mod call;
 mod enquiry;
 mod from_limit;
 mod line;
+mod lit;
 mod shape;
 
 use call::Reply;
@@ -13,13 +14,21 @@ use chain::enquiry::Factor;
 use chain::enquiry::Flux;
 use chain::enquiry::Outside;
 use chain::flux::number;
+use check::same;
 use libc::STDIN_FILENO;
 use libc::STDOUT_FILENO;
 use line::numbers_in;
 use line::place_of;
+use lit::Registered;
+use lit::light_of;
+use lit::out_of;
 use pairs::answer::Answer;
 use planning::free_place::FreePlace;
 use planning::stand_off::StandOff;
+use register::calls::Outcome;
+use register::places::Register;
+use register::places::empty;
+use register::sums::Totals;
 
 // 21 to 23 of document 01.
 fn outside_number(why: Outside) -> u64 {
@@ -112,6 +121,23 @@ fn print_free_place(f: FreePlace) {
     }
 }
 
+// 51 and 52 of document 02, after them the flux's own.
+fn outcome_number(o: Outcome) -> u64 {
+    match o {
+        Outcome::Accepted => 0,
+        Outcome::NumberRefused => 51,
+        Outcome::Full => 52,
+        Outcome::FluxRefused(why) => number(why) as u64,
+    }
+}
+
+fn print_totals(state: u64, t: Totals) {
+    io::print_decimal(STDOUT_FILENO, state);
+    print_after_blank(t.burning as u64);
+    print_after_blank(t.lows);
+    print_after_blank(t.highs);
+}
+
 fn print_reply(r: Reply) {
     match r {
         Reply::Operation(a) => print_operation(a),
@@ -119,6 +145,7 @@ fn print_reply(r: Reply) {
         Reply::FactorAlone(f) => print_factor(f),
         Reply::StandOff(s) => print_stand_off(s),
         Reply::FreePlace(f) => print_free_place(f),
+        Reply::Register(o, t) => print_totals(outcome_number(o), t),
         Reply::Unreadable => {
             io::write_all(STDOUT_FILENO, b"unreadable");
         }
@@ -126,16 +153,32 @@ fn print_reply(r: Reply) {
     io::write_all(STDOUT_FILENO, b"\n");
 }
 
-fn answer_line(line: &[u8]) {
+fn print_registered(k: Registered) -> Register {
+    let reply = k.reply;
+    print_reply(reply);
+    k.register
+}
+
+// Answers a line, and gives back the register after it.
+fn answer_line(line: &[u8], r: Register) -> Register {
     let end = place_of(line, b' ', 0);
-    print_reply(called(&line[0..end], numbers_in(&line[end..])));
+    let ns = numbers_in(&line[end..]);
+    if same(&line[0..end], b"light") {
+        return print_registered(light_of(r, ns));
+    }
+    if same(&line[0..end], b"out") {
+        return print_registered(out_of(r, ns));
+    }
+    print_reply(called(&line[0..end], ns));
+    r
 }
 
 fn answer_lines(text: &[u8]) {
+    let mut burning = empty();
     let mut at = 0;
     while at < text.len() {
         let end = place_of(text, b'\n', at);
-        answer_line(&text[at..end]);
+        burning = answer_line(&text[at..end], burning);
         at = end + 1;
     }
 }

@@ -7,10 +7,13 @@ use Rattle.ops.proofs.answer_lines.Statement.{statement}
 use Rattle.ops.proofs.answer_lines.Tie as tie
 
 abbrev Inv-loop : tie.InvT-loop
-Inv-loop text at₀ at = Unit {0}
+Inv-loop text burning₀ at₀ burning at = Unit {0}
 
 abbrev μ-loop : tie.MeasureT-loop
-μ-loop text at₀ at = length text - at
+μ-loop text burning₀ at₀ burning at = length text - at
+
+empty-requires : tie.Need-empty-requires Inv-loop μ-loop
+empty-requires c κs = search needs
 
 loop-holds : tie.Need-loop-holds Inv-loop μ-loop
 loop-holds c = search needs
@@ -48,6 +51,7 @@ answer-lines-spec =
     (tie.spec
     Inv-loop
     μ-loop
+    empty-requires
     loop-holds
     place-of-requires
     sub-answer-line

@@ -1,0 +1,49 @@
+-- What a call is answered, from whether its pool burns and how many burn, in the order of the refusals. By the outcomes of the tests.
+-- Assumes nothing.
+use mathlib.Core.Path.{_≡_, refl, ap, _∙_}
+use mathlib.Core.Bool.{Bool, true, false, _||_, not}
+use mathlib.Core.List.{List}
+use Prim.Native.Nat.{ℕ, zero, suc, _≤_}
+use native.Mathlib.Omega.{arith}
+use lib.Dec.{leb, ltb}
+use borrow.Author.Tests.{lt-ltb}
+use Rattle.pairs.specs.Figures.{refuse}
+use Rattle.chain.specs.Flux.{outside, flux-of}
+use Rattle.chain.proofs.Limits.{between}
+use Rattle.register.specs.declared.places.Register.{Register}
+use Rattle.register.specs.Places.{free, has}
+use Rattle.register.specs.Sums.{how-many}
+use Rattle.register.specs.Calls.{Shown, refused, with-first, lit, light-of, put-out-of}
+use Rattle.history.specs.History.{Call, Light, PutOut, called, Answered, lit-with, is-lit, afresh, due}
+
+-- Whether a pool burns counts from number 1 on.
+in-span : (number : ℕ) (a b : Bool) → (1 ≤ number → a ≡ b) → (outside 1 255 number || a) ≡ (outside 1 255 number || b)
+in-span number a b same = by-span (outside 1 255 number) refl
+  where
+    by-span : (t : Bool) → outside 1 255 number ≡ t → (outside 1 255 number || a) ≡ (outside 1 255 number || b)
+    by-span true o = rw o
+    by-span false o = ap (λ t. outside 1 255 number || t) (same (between 1 255 number o .low))
+
+module _ (R : Register) (h : List Answered) where
+  -- The state alone.
+  state-of-lit : (a b : Bool) (s : ℕ) (x : Shown) → x .state ≡ 0
+      → (refuse a (refused 51 R) (refuse b (refused 52 R) (refuse (ltb 0 s) (refused s R) x))) .state ≡ refuse a 51 (refuse b 52 s)
+  state-of-lit true b s x e = refl
+  state-of-lit false true s x e = refl
+  state-of-lit false false zero x e = e
+  state-of-lit false false (suc s) x e = rw (lt-ltb 0 (suc s) (omega arith))
+
+  state-of-out : (a : Bool) (x : Shown) → x .state ≡ 0 → (refuse a (refused 51 R) x) .state ≡ refuse a 51 0
+  state-of-out true x e = refl
+  state-of-out false x e = e
+
+  pub answered-due :
+      ((n : ℕ) → 1 ≤ n → has n (R .places) ≡ is-lit (lit-with n h)) → how-many R ≡ afresh h .burning → (c : Call) → called R c .state ≡ due h c
+  unfolding light-of put-out-of due
+  answered-due burning many (Light number E) =
+      state-of-lit (outside 1 255 number || has number (R .places)) (leb 32 (how-many R)) (flux-of E .state) (with-first 0 (lit number E) R) refl
+      ∙ ap (λ t. refuse t 51 (refuse (leb 32 (how-many R)) 52 (flux-of E .state))) (in-span number _ _ (burning number))
+      ∙ ap (λ m. refuse (outside 1 255 number || is-lit (lit-with number h)) 51 (refuse (leb 32 m) 52 (flux-of E .state))) many
+  answered-due burning many (PutOut number) =
+      state-of-out (outside 1 255 number || not (has number (R .places))) (with-first number free R) refl
+      ∙ ap (λ t. refuse t 51 0) (in-span number _ _ (λ l. ap not (burning number l)))

@@ -1,0 +1,121 @@
+-- Lists of calls that fill the register, so that nothing is said of no pool at all: an accepted enquiry lit under the numbers 1 to 32, of
+-- which each is accepted; then 33 is refused by 52, and accepted after a pool is put out. By what each call is due. The standard's enquiry
+-- is one (ISO 24678-7, A.8). Assumes nothing.
+use mathlib.Core.Path.{_≡_, refl, sym, ap, _∙_}
+use mathlib.Core.Bool.{false}
+use mathlib.Core.Option.{none, some}
+use mathlib.Core.List.{List, [], _∷_}
+use Prim.Native.Nat.{ℕ, zero, suc, _≤_, _<_}
+use native.Mathlib.Omega.{arith}
+use native.Mathlib.Decide.{ℕ-discrete}
+use lib.Dec.{lit≤, lit<}
+use lib.IntN.{pos}
+use borrow.Author.Tests.{le-leb, lt-leb}
+use Rattle.chain.specs.declared.enquiry.Enquiry.{Enquiry}
+use Rattle.chain.specs.Flux.{outside, flux-of}
+use Rattle.chain.proofs.Limits.{inside}
+use Rattle.chain.proofs.Examples.{example, level-accepted}
+use Rattle.register.specs.declared.sums.Totals.{Totals}
+use Rattle.history.specs.History.{Call, Light, PutOut, called, after, Answered, history, lit-with, afresh, due}
+use Rattle.history.proofs.Afresh.{one-more, no-pools-sum}
+use Rattle.history.proofs.Follows.{after-accepted, after-other, nothing-lit}
+use Rattle.history.proofs.Claims.{claims}
+
+module _ (h : List Answered) (number : ℕ) (E : Enquiry) (least : 1 ≤ number) (most : number ≤ 255) where
+  within : outside 1 255 number ≡ false
+  within = inside 1 255 number least most
+
+  due-accepted : lit-with number h ≡ none → afresh h .burning < 32 → flux-of E .state ≡ 0 → due h (Light number E) ≡ 0
+  unfolding due
+  due-accepted out space e = rw (within, out, lt-leb 32 (afresh h .burning) space, e)
+
+  due-full : lit-with number h ≡ none → 32 ≤ afresh h .burning → due h (Light number E) ≡ 52
+  unfolding due
+  due-full out full = rw (within, out, le-leb 32 (afresh h .burning) full)
+
+  due-out : lit-with number h ≡ some E → due h (PutOut number) ≡ 0
+  unfolding due
+  due-out burns = rw (within, burns)
+
+-- An accepted call in the history.
+next : (calls : List Call) (c : Call) → called (after calls) c .state ≡ 0 → history (c ∷ calls) ≡ record { call = c; state = 0 } ∷ history calls
+unfolding history
+next calls c e = ap (λ s. record { call = c; state = s } ∷ history calls) e
+
+-- An enquiry lit under the numbers 1 to k.
+abbrev pub lights-of : Enquiry → ℕ → List Call
+lights-of E zero = []
+lights-of E (suc k) = Light (suc k) E ∷ lights-of E k
+
+module _ (E : Enquiry) (accepted : flux-of E .state ≡ 0) where
+  abbrev lights : ℕ → List Call
+  lights k = lights-of E k
+
+  pub record Alight (k : ℕ) : Type 0 where
+    pub burning : afresh (history (lights k)) .burning ≡ k
+    pub lit : (m : ℕ) → 1 ≤ m → m ≤ k → lit-with m (history (lights k)) ≡ some E
+    pub out : (m : ℕ) → k < m → lit-with m (history (lights k)) ≡ none
+
+  alight-none : Alight 0
+  unfolding history
+  alight-none =
+      record {
+        burning = no-pools-sum (λ E. 1) (λ n. lit-with n []) nothing-lit 255;
+        lit = λ m l h. absurd (omega arith);
+        out = λ m l. nothing-lit m;
+      }
+
+  lights-next : (k : ℕ) → k < 32 → Alight k → called (after (lights k)) (Light (suc k) E) .state ≡ 0
+  lights-next k l a =
+      claims .answered (lights k) (Light (suc k) E)
+      ∙ due-accepted (history (lights k)) (suc k) E (omega arith) (omega arith) (a .out (suc k) (omega arith)) (omega (arith, a .burning, l)) accepted
+
+  alight-next : (k : ℕ) → k < 32 → Alight k → Alight (suc k)
+  alight-next k l a =
+      let c = Light (suc k) E in
+      let h = history (lights k) in
+      let now = next (lights k) c (lights-next k l a) in
+      let more =
+      one-more (λ E. 1) (λ n. lit-with n h) (λ n. lit-with n (record { call = c; state = 0 } ∷ h)) (suc k) E (a .out (suc k) (omega arith))
+      (after-accepted c h (suc k) refl) (λ j other. sym (after-other c h j other)) 255 (omega arith) (omega arith)
+      in
+      record {
+        burning = omega (arith, ap (λ (g : List Answered). afresh g .burning) now, more, a .burning);
+        lit =
+            λ m least most. ap (lit-with m) now ∙ elim (ℕ-discrete (suc k) m) [
+              | yes e ↦ after-accepted c h m e
+              | no e ↦ after-other c h m e ∙ a .lit m least (omega (arith, e, most))
+            ];
+        out = λ m k. ap (lit-with m) now ∙ after-other c h m (λ e. omega (arith, e, k)) ∙ a .out m (omega arith);
+      }
+
+  pub alight : (k : ℕ) → k ≤ 32 → Alight k
+  alight zero l = alight-none
+  alight (suc k) l = alight-next k (omega arith) (alight k (omega arith))
+
+  -- With 32 alight another is refused by 52.
+  pub full : called (after (lights 32)) (Light 33 E) .state ≡ 52
+  full =
+      let a = alight 32 (lit≤ tt) in
+      claims .answered (lights 32) (Light 33 E)
+      ∙ due-full (history (lights 32)) 33 E (lit≤ tt) (lit≤ tt) (a .out 33 (lit< tt)) (omega (arith, a .burning))
+
+  pub put-out : called (after (lights 32)) (PutOut 1) .state ≡ 0
+  put-out =
+      claims .answered (lights 32) (PutOut 1)
+      ∙ due-out (history (lights 32)) 1 E (lit≤ tt) (lit≤ tt) (alight 32 (lit≤ tt) .lit 1 (lit≤ tt) (lit≤ tt))
+
+  -- "A pool put out makes space for another."
+  pub space : called (after (PutOut 1 ∷ lights 32)) (Light 33 E) .state ≡ 0
+  space =
+      let h = history (PutOut 1 ∷ lights 32) in
+      let fewer = claims .space (lights 32) 1 put-out in
+      let most = claims .at-most (lights 32) in
+      let afresh-is = ap (λ (t : Totals). t .burning) (claims .sums (PutOut 1 ∷ lights 32)) in
+      let out = ap (lit-with 33) (next (lights 32) (PutOut 1) put-out) ∙ after-other (PutOut 1) (history (lights 32)) 33 (λ e. omega (arith, e)) ∙ alight 32 (lit≤ tt) .out 33 (lit< tt) in
+      claims .answered (PutOut 1 ∷ lights 32) (Light 33 E)
+      ∙ due-accepted h 33 E (lit≤ tt) (lit≤ tt) out (omega (arith, fewer, most, afresh-is)) accepted
+
+-- The standard's enquiry, so there are such lists.
+pub standard-full : called (after (lights-of (example 1 1 (pos 0) 1_000) 32)) (Light 33 (example 1 1 (pos 0) 1_000)) .state ≡ 52
+standard-full = full (example 1 1 (pos 0) 1_000) (level-accepted 1 1 1_000 refl refl refl)

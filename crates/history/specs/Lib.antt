@@ -1,0 +1,3 @@
+-- Request 10 of document 02: a list of calls on the register and what each was answered, and what is claimed of the register after it.
+pub mod History
+pub mod Claims

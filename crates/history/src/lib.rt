@@ -1,0 +1,1 @@
+// No code: lists of calls on the register, what each was answered, and what is claimed of the register after them (specs/).

@@ -1,0 +1,4 @@
+pub mod ByNumber
+pub mod Rest
+pub mod FirstPlace
+pub mod Outcomes
