@@ -1,11 +1,12 @@
 //! Times the operations on pairs, compiled from Rattle, beside Rust's u128 on the same random sequence, and compares their check sums;
-//! then whole sheets, then answers from a limit.
+//! then whole sheets, answers from a limit, and calls on the register.
 //! The arguments are the compiled programs `speed` and `ops`.
 
 mod from_limit;
 mod plain;
 #[path = "../../compare/src/proved.rs"]
 mod proved;
+mod register;
 mod sheets;
 
 use plain::{Answer, Pair};
@@ -122,5 +123,9 @@ fn main() {
     if !from_limit::table(&ops) {
         std::process::exit(1);
     }
-    println!("All answers agree.");
+    println!("All answers agree.\n");
+    if !register::table(&program) {
+        std::process::exit(1);
+    }
+    println!("All check sums agree.");
 }

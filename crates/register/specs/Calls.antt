@@ -36,11 +36,12 @@ refused n R = record { state = n; register = R }
 abbrev pub accepted : Register → Shown
 accepted R = record { state = 0; register = R }
 
--- The first place of a number, given to another; nothing where no place has it.
+-- The places with a pool in the first place that has a number; as they were where none has it.
 unfoldable pub replaced : ℕ → BurningPool → List BurningPool → List BurningPool
 replaced n pool [] = []
 replaced n pool (p ∷ ps) = elim (eqb (p .number) n) [ true ↦ pool ∷ ps | false ↦ p ∷ replaced n pool ps ]
 
+-- An accepted call: a pool in the first place that has a number.
 abbrev pub with-first : ℕ → BurningPool → Register → Shown
 with-first n pool R = accepted (record { places = replaced n pool (R .places) })
 
@@ -57,7 +58,7 @@ light-of R number E =
     (refuse (ltb 0 (flux-of E .state)) (refused (flux-of E .state) R)
     (with-first 0 (lit number E) R)))
 
--- "A pool put out makes space for another."
+-- "51, .. or not burning when put out"; "A pool put out makes space for another.": its place is free.
 unfoldable pub put-out-of : Register → ℕ → Shown
 put-out-of R number =
     refuse (outside 1 255 number || not (has number (R .places))) (refused 51 R)

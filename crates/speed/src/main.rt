@@ -1,11 +1,14 @@
-// Runs one operation on pairs many times over a fixed random sequence, and prints the check sum of all its ends. The first argument names
-// the operation, the second says how many times. With no arguments each operation is run 1,000 times.
+// Runs one operation on pairs many times over a fixed random sequence, and prints the check sum of all its ends; or calls the register many
+// times, and prints the check sum of what it answers. The first argument names the operation, the second says how many times. With no
+// arguments each is run 1,000 times.
+mod register_calls;
 mod sequence;
 
 use check::same;
 use libc::STDOUT_FILENO;
 use pairs::answer::Answer;
 use pairs::answer::Pair;
+use register_calls::calls_sum;
 use sequence::ends;
 use sequence::pair_at;
 use std::num::wrapping_add_u64;
@@ -124,6 +127,11 @@ fn print_sum(o: Operation, count: u64) {
     io::write_all(STDOUT_FILENO, b"\n");
 }
 
+fn print_calls(count: u64, after_each: bool) {
+    io::print_decimal(STDOUT_FILENO, calls_sum(count, after_each));
+    io::write_all(STDOUT_FILENO, b"\n");
+}
+
 fn print_each() {
     print_sum(Operation::Product, 1000);
     print_sum(Operation::Quotient, 1000);
@@ -132,6 +140,8 @@ fn print_each() {
     print_sum(Operation::Atan, 1000);
     print_sum(Operation::ExpNeg, 1000);
     print_sum(Operation::ColdExpNeg, 1000);
+    print_calls(1000, false);
+    print_calls(1000, true);
 }
 
 // How many times: the second argument.
@@ -146,6 +156,14 @@ fn main() {
     let n = os::arg(1, &mut name);
     if n == 0 {
         print_each();
+        return;
+    }
+    if same(&name[..n], b"calls") {
+        print_calls(count_asked(), false);
+        return;
+    }
+    if same(&name[..n], b"calls_and_sums") {
+        print_calls(count_asked(), true);
         return;
     }
     print_sum(named(&name[..n]), count_asked());
