@@ -5,9 +5,6 @@ use native.Mathlib.Nat.{le-trans, le-refl, lt-of-not-le}
 use native.Mathlib.Decide.{decLe}
 use native.Mathlib.Omega.{arith}
 use lib.Dec.{T, lit≤}
-use Rattle.chain.specs.declared.enquiry.Enquiry.{Enquiry}
-use Rattle.chain.specs.Flux.{flux-of}
-use Rattle.chain.proofs.Accepted.{no-other-state}
 use Rattle.exact.proofs.Demand3.{demand-3}
 use Rattle.planning.specs.declared.scenario.Scenario.{Scenario}
 use Rattle.planning.specs.Scenario.{at-distance}
@@ -15,14 +12,10 @@ use Rattle.planning.specs.StandOff.{Shown, refused, flux-at, keeps-from,
 use Rattle.planning.specs.Claims.{Kept, KeptFrom, Answered, Over, Zeros, Claims}
 use Rattle.planning.proofs.Outcomes.{flux-first, over, kept, by-farthest}
 use Rattle.planning.proofs.Nearest.{found, at-most, enough, keeps-each, keeps-all, keeps-farthest, keeps-nearer}
-use Rattle.planning.proofs.SameState.{same-state}
+use Rattle.planning.proofs.SameState.{same-state, never-above-19}
 
 refused-zeros : {n : ℕ} → Zeros (refused n)
 refused-zeros = record { decimetres = refl; low = refl; high = refl }
-
--- No flux is refused by 41.
-never-41 : (E : Enquiry) → flux-of E .state ≡ 41 → ⊥
-never-41 E e = let z = no-other-state E 41 (λ n l u h k. omega arith) e in omega (arith, z)
 
 module _ (S : Scenario) (limit : ℕ) where
   state-of : {a : Shown} → stand-off-of S limit ≡ a → stand-off-of S limit .state ≡ a .state
@@ -30,7 +23,7 @@ module _ (S : Scenario) (limit : ℕ) where
 
   only-over : stand-off-of S limit .state ≡ 41 → Over S limit
   only-over h =
-      by-farthest S limit (Over S limit) (λ n p e. absurd (never-41 _ (e ∙ sym (state-of (flux-first S limit n p e)) ∙ h))) (λ o. o)
+      by-farthest S limit (Over S limit) (λ n p e. absurd (never-above-19 _ 41 (lit≤ tt) (e ∙ sym (state-of (flux-first S limit n p e)) ∙ h))) (λ o. o)
       (λ k. absurd (omega (arith, state-of (kept S limit k), h)))
 
   zeros : (n : ℕ) → stand-off-of S limit .state ≡ suc n → Zeros (stand-off-of S limit)

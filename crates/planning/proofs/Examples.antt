@@ -10,7 +10,6 @@ use Rattle.chain.specs.Flux.{outside, height-outside}
 use Rattle.chain.proofs.Examples.{each-accepted}
 use Rattle.planning.specs.declared.scenario.Scenario.{Scenario}
 use Rattle.planning.specs.StandOff.{flux-at, stand-off-of}
-use Rattle.planning.specs.Claims.{Claims}
 use Rattle.planning.proofs.SameState.{same-state}
 use Rattle.planning.proofs.Claims.{claims}
 

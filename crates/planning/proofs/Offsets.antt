@@ -1,8 +1,8 @@
 -- How far an offset is from the centre after so many mm more to the east or north, and how far at most. By its sign. Assumes nothing.
 use mathlib.Core.Path.{_≡_, refl, sym, subst}
-use mathlib.Core.Bool.{Bool, true, false}
+use mathlib.Core.Bool.{true, false}
 use Prim.Native.Nat.{ℕ, suc, _+_, _*_, _-_, _≤_, _<_}
-use native.Mathlib.Nat.{le-refl, lt-of-not-le, mul-le-mul, le-trans}
+use native.Mathlib.Nat.{le-refl, lt-of-not-le, mul-le-mul}
 use native.Mathlib.Decide.{decLe}
 use native.Mathlib.Omega.{arith}
 use lib.Dec.{T}

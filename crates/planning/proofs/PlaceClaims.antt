@@ -1,24 +1,22 @@
 -- What is claimed of the first free place. By its outcomes, from the laws of the walk, of the flux's own refusal and of the radius.
 -- Assumes nothing.
 use mathlib.Core.Path.{_≡_, refl, sym, ap, subst, _∙_}
-use mathlib.Core.Bool.{Bool, true, false}
-use Prim.Native.Nat.{ℕ, suc, _+_, _*_, _-_, _≤_, _<_}
+use mathlib.Core.Bool.{true}
+use Prim.Native.Nat.{ℕ, suc, _+_, _*_, _≤_, _<_}
 use native.Mathlib.Nat.{le-refl, not-le-of-lt}
 use native.Mathlib.Omega.{arith}
 use lib.Dec.{T, lit≤}
 use Rattle.pairs.proofs.Search.{root-down-passes, root-down-next}
-use Rattle.chain.specs.declared.enquiry.Enquiry.{Enquiry}
 use Rattle.chain.specs.Flux.{flux-of}
-use Rattle.chain.proofs.Accepted.{no-other-state}
 use Rattle.exact.proofs.Demand3.{demand-3}
 use Rattle.planning.specs.declared.scenario.Scenario.{Scenario}
 use Rattle.planning.specs.declared.grid.Grid.{Grid}
 use Rattle.planning.specs.Scenario.{at-distance}
 use Rattle.planning.specs.Distance.{radius-of}
 use Rattle.planning.specs.Grid.{grid-outside, squares, centre-distance, rim-distance}
-use Rattle.planning.specs.FreePlace.{Shown, refused, own-refusal, flux-from, is-free, shown-at, walked, free-place-of}
-use Rattle.planning.specs.PlaceClaims.{InLimits, InGrid, Considered, Free, Unfit, FirstFree, NoneFree, PlaceZeros, NeverLonger, PlaceClaims}
-use Rattle.planning.proofs.SameState.{never-14}
+use Rattle.planning.specs.FreePlace.{Shown, refused, own-refusal, is-free, shown-at, walked, free-place-of}
+use Rattle.planning.specs.PlaceClaims.{InLimits, Free, FirstFree, NoneFree, PlaceZeros, NeverLonger, PlaceClaims}
+use Rattle.planning.proofs.SameState.{never-14, never-above-19}
 use Rattle.planning.proofs.GridLimits.{not-outside}
 use Rattle.planning.proofs.Radius.{area-covered}
 use Rattle.planning.proofs.Walk as walk
@@ -27,10 +25,6 @@ use Rattle.planning.proofs.PlaceOutcomes.{own-state, is-42, own, walks,
 
 refused-zeros : {n : ℕ} → PlaceZeros (refused n)
 refused-zeros = record { row = refl; place = refl; low = refl; high = refl }
-
--- No flux is refused by 42 or 43.
-never : (E : Enquiry) (k : ℕ) → 19 < k → flux-of E .state ≡ k → ⊥
-never E k l e = let z = no-other-state E k (λ n a b c d. omega arith) e in omega (arith, z)
 
 -- ---- distances
 pub whole-part :
@@ -106,7 +100,7 @@ module _ (S : Scenario) (limit : ℕ) (G : Grid) where
 
   only-out : free-place-of S limit G .state ≡ 42 → InLimits G → ⊥
   only-out =
-      by-shown (λ s. s .state ≡ 42 → InLimits G → ⊥) (λ e h g. in-limits-not-42 g e) (λ g n p e h _. never _ 42 (lit≤ tt) (e ∙ h))
+      by-shown (λ s. s .state ≡ 42 → InLimits G → ⊥) (λ e h g. in-limits-not-42 g e) (λ g n p e h _. never-above-19 _ 42 (lit≤ tt) (e ∙ h))
       (λ x h g. omega (arith, h)) (λ g row place a h _. omega (arith, h))
 
   flux-next : InLimits G → (d n : ℕ) → 1_000 ≤ d → d ≤ 200_000 → flux-of (at-distance S d) .state ≡ suc n → free-place-of S limit G .state ≡ suc n
@@ -125,7 +119,7 @@ module _ (S : Scenario) (limit : ℕ) (G : Grid) where
 
   only-43 : free-place-of S limit G .state ≡ 43 → NoneFree S limit G
   only-43 =
-      by-shown (λ s. s .state ≡ 43 → NoneFree S limit G) (λ e h. absurd (omega (arith, h))) (λ g n p e h. absurd (never _ 43 (lit≤ tt) (e ∙ h)))
+      by-shown (λ s. s .state ≡ 43 → NoneFree S limit G) (λ e h. absurd (omega (arith, h))) (λ g n p e h. absurd (never-above-19 _ 43 (lit≤ tt) (e ∙ h)))
       (λ x h. x) (λ g row place a h. absurd (omega (arith, h)))
 
   some : (row place : ℕ) → InLimits G → Free S limit G row place → free-place-of S limit G .state ≡ 0

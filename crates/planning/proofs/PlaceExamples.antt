@@ -17,7 +17,7 @@ use Rattle.planning.specs.Scenario.{at-distance}
 use Rattle.planning.specs.Distance.{radius-of}
 use Rattle.planning.specs.Grid.{centre-distance, rim-distance}
 use Rattle.planning.specs.FreePlace.{flux-from, free-place-of}
-use Rattle.planning.specs.PlaceClaims.{InLimits, InGrid, Considered, PlaceClaims}
+use Rattle.planning.specs.PlaceClaims.{InLimits, InGrid, Considered}
 use Rattle.planning.proofs.SameState.{same-state}
 use Rattle.planning.proofs.Radius.{radius-of-most}
 use Rattle.planning.proofs.Examples.{example}

@@ -10,7 +10,7 @@ use Rattle.pairs.specs.Rounded as R
 use Rattle.pairs.specs.Rounded.{U, ends, rounded}
 use Rattle.pairs.specs.Figures.{Figures, given}
 use Rattle.pairs.specs.Answers as A
-use Rattle.pairs.specs.Answers.{answers, quotient-of, root-of, over-of}
+use Rattle.pairs.specs.Answers.{quotient-of, root-of, over-of}
 use Rattle.pairs.specs.Series.{pi}
 use Rattle.pairs.proofs.Lifted.{root-handed, over-handed, quotient-given}
 use Rattle.pairs.proofs.Rounding.{up-by, up-covers, up-least}

@@ -14,9 +14,8 @@ use Rattle.planning.specs.declared.free_place.FreePlace.the-variants as 
 use Rattle.planning.specs.StandOff.{Shown, shown, stand-off-of}
 use Rattle.planning.specs.FreePlace as place
 use Rattle.planning.specs.FreePlace.{free-place-of}
-use Rattle.planning.specs.Claims.{Answered, Claims}
+use Rattle.planning.specs.Claims.{Answered}
 use Rattle.planning.specs.PlaceClaims as places
-use Rattle.planning.specs.PlaceClaims.{PlaceClaims}
 use Rattle.planning.proofs.Claims.{claims}
 use Rattle.planning.proofs.PlaceClaims as proved
 

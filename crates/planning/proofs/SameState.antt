@@ -2,13 +2,13 @@
 -- pool alone, by a law of `chain`, and 17 is never given. By the outcomes of the tests, one after another. Assumes nothing.
 use mathlib.Core.Path.{_≡_, refl, _∙_}
 use mathlib.Core.Bool.{Bool, true, false, not}
-use Prim.Native.Nat.{ℕ, _≤_}
+use Prim.Native.Nat.{ℕ, _≤_, _<_}
 use native.Mathlib.Omega.{arith}
 use Rattle.pairs.specs.Figures.{refuse}
 use Rattle.chain.specs.declared.enquiry.Enquiry.{Enquiry}
 use Rattle.chain.specs.Flux.{Shown, refused, outside, fuel-within, height-outside, flame-too-low, stage-too-large, low-of, high-of, note-of, flux-of}
 use Rattle.chain.proofs.Limits.{Tested, inside}
-use Rattle.chain.proofs.Accepted.{no-stage-too-large}
+use Rattle.chain.proofs.Accepted.{no-stage-too-large, no-other-state}
 use Rattle.chain.proofs.PoolAlone.{same-flame-test}
 use Rattle.planning.specs.declared.scenario.Scenario.{Scenario}
 use Rattle.planning.specs.Scenario.{at-distance}
@@ -76,3 +76,7 @@ never-14 S d l h =
     after-17 : (b : Bool) (low high note : ℕ) → refuse b (refused 17) (record { state = 0; low = low; high = high; note = note }) .state ≡ 14 → ⊥
     after-17 true low high note e = omega (arith, e)
     after-17 false low high note e = omega (arith, e)
+
+-- No flux is refused by a number above 19.
+pub never-above-19 : (E : Enquiry) (k : ℕ) → 19 < k → flux-of E .state ≡ k → ⊥
+never-above-19 E k l e = let z = no-other-state E k (λ n a b c d. omega arith) e in omega (arith, z)

@@ -1,7 +1,7 @@
 -- The walk over a grid: what it finds, said without it. A place is free, or it is passed over or over the limit; the walk shows the first
 -- that is free, row by row, or 43 where none is. From the laws of the least number that passes. Assumes nothing.
 use mathlib.Core.Path.{_≡_, refl, sym, ap, subst, _∙_}
-use mathlib.Core.Bool.{Bool, true, false, not}
+use mathlib.Core.Bool.{Bool, false, not}
 use Prim.Native.Nat.{ℕ, suc, _≤_, _<_}
 use native.Mathlib.Nat.{le-refl, le-of-lt, lt-of-not-le, not-le-of-lt, lt-of-le-of-lt}
 use native.Mathlib.Decide.{decLe}
@@ -9,14 +9,14 @@ use native.Mathlib.Omega.{arith}
 use lib.Dec.{T, leb, ltb, leb→le, le→leb, ltb→lt, lt→ltb}
 use lib.Ieee.Fits.{and-i, and-l, and-r}
 use borrow.Author.Tests.{le-leb, lt-leb}
-use Rattle.pairs.proofs.Search.{least-within, least-reached, least-bound, least-first, least-none}
+use Rattle.pairs.proofs.Search.{least-reached, least-bound, least-first, least-none}
 use Rattle.chain.specs.Flux.{outside}
 use Rattle.chain.proofs.Limits.{between, inside}
 use Rattle.planning.specs.declared.scenario.Scenario.{Scenario}
 use Rattle.planning.specs.declared.grid.Grid.{Grid}
 use Rattle.planning.specs.Grid.{rim-distance}
-use Rattle.planning.specs.FreePlace.{Shown, refused, flux-from, is-free, first-in-row, first-row, shown-at, walked}
-use Rattle.planning.specs.PlaceClaims.{InGrid, Considered, Unfit}
+use Rattle.planning.specs.FreePlace.{refused, flux-from, is-free, first-in-row, first-row, shown-at, walked}
+use Rattle.planning.specs.PlaceClaims.{Considered, Unfit}
 
 not-true : (b : Bool) → T (not b) → b ≡ false
 not-true false t = refl

@@ -41,7 +41,7 @@ struct PairAtRim {
 
 // The nearest distance of the span.
 fn into_span(rim: RimMillimetres) -> RimMillimetres
-    ensures { λ r. ⌜ InSpan r ⌝ }
+    ensures { λ r. ⌜ InSpan r × (InSpan rim → r .0 ≡ rim .0) ⌝ }
 {
     if rim.0 < 1_000 {
         return RimMillimetres(1_000);

@@ -1,6 +1,6 @@
 -- `asked` meets its contract: the pair is that of the flux, zeros where it is refused.
 -- Assumes nothing.
-use mathlib.Core.Path.{_≡_, refl, sym, ap, _∙_}
+use mathlib.Core.Path.{refl, sym, ap, _∙_}
 use Rattle.chain.specs.Flux.{shown, flux-of}
 use Rattle.planning.proofs.AskedThere.{asked-at}
 use borrow.Author.Needs.{needs}

@@ -1,6 +1,6 @@
 -- `first_free_place` meets its contract: each case of the flux at the first place has its outcome.
 -- Assumes nothing.
-use mathlib.Core.Path.{_≡_, refl, sym, ap, _∙_}
+use mathlib.Core.Path.{refl, sym, ap, _∙_}
 use lib.Dec.{lit<}
 use Rattle.chain.specs.Flux.{shown, number-of, flux-of}
 use Rattle.chain.proofs.Limits.{number-above-0}
@@ -48,7 +48,7 @@ walk-requires c κs =
     let e = a .before in
     let s = e .before .before in
     let there = sym (ap shown (c .before .f2 .given .1)) ∙ k .flux .ensures ∙ ap flux-of (k .before .at-distance .ensures) in
-    let area = area-within (s .args .s) (r .into-span .result) (r .into-span .ensures) _ there refl in (
+    let area = area-within (s .args .s) (r .into-span .result) (r .into-span .ensures .0) _ there refl in (
       in-limits _ (sym (e .before .grid-outside .ensures) ∙ e .if1 .left),
       a .radius-of .ensures (area .low) (area .high),
       asked-at _ _ _ there,
@@ -63,7 +63,7 @@ returns-2 c =
     let why = c .before .f .given .0 .0 in
     let there = sym (ap shown (c .before .f .given .1)) ∙ k .flux .ensures ∙ ap flux-of (k .before .at-distance .ensures) in
     let limits = in-limits _ (sym (e .before .grid-outside .ensures) ∙ e .if1 .left) in
-    sym (own (s .args .s) (s .args .limit) (s .args .g) limits (number-of why) (number-above-0 why) (own-is (s .args .s) (r .into-span .result) (r .into-span .ensures) _ there))
+    sym (own (s .args .s) (s .args .limit) (s .args .g) limits (number-of why) (number-above-0 why) (own-is (s .args .s) (r .into-span .result) (r .into-span .ensures .0) _ there))
 
 returns-3 : tie.Need-returns-3
 returns-3 c =
@@ -74,7 +74,7 @@ returns-3 c =
     let s = e .before .before in
     let there = sym (ap shown (f .f2 .given .1)) ∙ k .flux .ensures ∙ ap flux-of (k .before .at-distance .ensures) in
     let limits = in-limits _ (sym (e .before .grid-outside .ensures) ∙ e .if1 .left) in
-    c .walk .ensures ∙ sym (walks (s .args .s) (s .args .limit) (s .args .g) limits (own-is (s .args .s) (r .into-span .result) (r .into-span .ensures) _ there))
+    c .walk .ensures ∙ sym (walks (s .args .s) (s .args .limit) (s .args .g) limits (own-is (s .args .s) (r .into-span .result) (r .into-span .ensures .0) _ there))
 
 pub first-free-place-spec : {M : Type 1} → statement M
 first-free-place-spec =
