@@ -2,11 +2,11 @@
 //! 10 decimetres, 1,991 enquiries each, and a walk over a whole grid, 4,096 enquiries.
 
 use crate::proved::REQUESTS;
+use crate::turns;
 use reference::{first_free_place, stand_off, Enquiry, Grid};
 use std::hint::black_box;
 use std::io::Write;
 use std::process::{Command, Stdio};
-use std::time::Instant;
 
 /// A limit in W/m² that every distance keeps.
 const KEPT: u64 = u32::MAX as u64;
@@ -25,29 +25,10 @@ fn rattle(program: &str, lines: &str) -> String {
     String::from_utf8(child.wait_with_output().expect("its output").stdout).expect("digits")
 }
 
-/// The ms that each answer took, where it is the fastest so far.
-fn fastest(best: &mut f64, answers: impl FnOnce() -> String) -> String {
-    let began = Instant::now();
-    let text = black_box(answers());
-    *best = best.min(began.elapsed().as_nanos() as f64 / 1e6 / COPIES as f64);
-    text
-}
-
 /// One line of the table: a line for `ops`, and what the Rust version answers to it; true where all answers agree.
 fn compared(program: &str, name: &str, line: &str, rust: impl Fn() -> String) -> bool {
     let lines = line.repeat(COPIES);
-    let (mut ours, mut theirs) = (f64::INFINITY, f64::INFINITY);
-    let mut agree = true;
-    for _ in 0..RUNS {
-        let text = fastest(&mut ours, || rattle(program, &lines));
-        let other = fastest(&mut theirs, || (0..COPIES).map(|_| rust()).collect());
-        agree = agree && text == other;
-    }
-    println!("| {name} | {ours:.2} | {theirs:.2} | {:.1} |", theirs / ours);
-    if !agree {
-        println!("{name}: the answers differ");
-    }
-    agree
+    turns::compared(name, RUNS, COPIES as f64, || rattle(program, &lines), || (0..COPIES).map(|_| rust()).collect::<String>())
 }
 
 /// The numbers of an enquiry without its distance, as a line has them.

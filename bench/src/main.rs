@@ -8,6 +8,7 @@ mod plain;
 mod proved;
 mod register;
 mod sheets;
+mod turns;
 
 use plain::{Answer, Pair};
 use std::hint::black_box;

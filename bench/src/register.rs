@@ -2,9 +2,9 @@
 //! is lit, and the one that was lit twelve pools before it is put out.
 
 use crate::proved::REQUESTS;
+use crate::turns;
 use reference::{Enquiry, Register};
 use std::hint::black_box;
-use std::time::Instant;
 
 const COUNT: u64 = 20_000;
 const RUNS: usize = 10;
@@ -31,45 +31,27 @@ fn with_sums(total: u64, r: &Register) -> u64 {
 
 /// The check sum of `count` calls and of the sums after them; of the sums after each call where they are asked for.
 fn check_sum(count: u64, after_each: bool) -> u64 {
-    let mut burning = Register::new();
+    let mut register = Register::new();
     let mut total = 0;
     for n in 0..count {
         let k = n / 2;
         let state = if n % 2 == 0 {
-            burning.light(REQUESTS, k % 24 + 1, &enquiry_of(k))
+            register.light(REQUESTS, k % 24 + 1, &enquiry_of(k))
         } else {
-            burning.put_out((k % 24 + 12) % 24 + 1)
+            register.put_out((k % 24 + 12) % 24 + 1)
         };
         total += u64::from(state != 0);
         if after_each {
-            total = with_sums(total, &burning);
+            total = with_sums(total, &register);
         }
     }
-    with_sums(total, &burning)
+    with_sums(total, &register)
 }
 
-/// The ms that a thousand calls took, where they are the fastest so far.
-fn fastest(best: &mut f64, run: impl FnOnce() -> u64) -> u64 {
-    let began = Instant::now();
-    let total = black_box(run());
-    *best = best.min(began.elapsed().as_nanos() as f64 / 1e6 / COUNT as f64 * 1e3);
-    total
-}
-
-/// One line of the table, the best of some runs by turns; true where the check sums agree.
+/// One line of the table: what `speed` runs, and the same by the Rust version; true where the check sums agree.
 fn compared(program: &str, name: &str, what: &str, after_each: bool) -> bool {
-    let (mut ours, mut theirs) = (f64::INFINITY, f64::INFINITY);
-    let mut agree = true;
-    for _ in 0..RUNS {
-        let total = fastest(&mut ours, || crate::rattle(program, what, COUNT));
-        let other = fastest(&mut theirs, || check_sum(black_box(COUNT), after_each));
-        agree = agree && total == other;
-    }
-    println!("| {name} | {ours:.2} | {theirs:.2} | {:.1} |", theirs / ours);
-    if !agree {
-        println!("{name}: the check sums differ");
-    }
-    agree
+    let thousands = COUNT as f64 / 1e3;
+    turns::compared(name, RUNS, thousands, || crate::rattle(program, what, COUNT), || check_sum(black_box(COUNT), after_each))
 }
 
 /// The table of calls; true where all check sums agree.

@@ -12,7 +12,7 @@ use Rattle.register.specs.declared.places.BurningPool.{BurningPool}
 use Rattle.register.specs.Sums.{over-burning}
 use Rattle.history.specs.Claims.{AsLit}
 use Rattle.history.specs.History.{figure-of, over-numbers}
-use Rattle.register.proofs.ByNumber.{sum-none, sum-free, sum-burning, by-number}
+use Rattle.register.proofs.ByNumber.{sum-none, sum-vacant, sum-burning, by-number}
 use Rattle.history.proofs.Lookup.{lookup, lookup-none, lookup-here, lookup-later, no-lookup, Sound}
 
 module _ (figure : Enquiry → ℕ) where
@@ -61,7 +61,7 @@ module _ (figure : Enquiry → ℕ) where
         by-number 0 (λ ps. Sound ps → over-burning of-pool ps ≡ over-numbers figure (λ n. lookup n ps) 255)
         (λ s. sum-none of-pool ∙ sym (no-pools-sum (λ n. lookup n []) lookup-none 255))
         (λ p ps e rest s.
-        sum-free of-pool p ps e ∙ rest (s .1)
+        sum-vacant of-pool p ps e ∙ rest (s .1)
         ∙ same-sum (λ n. lookup n ps) (λ n. lookup n (p ∷ ps)) 255 (λ m l h. sym (lookup-later m p ps (λ k. omega (arith, k, e, l)))))
         (λ p ps e rest s.
         let b = s .0 e in

@@ -7,16 +7,13 @@ use mathlib.Core.List.{List, [], _∷_}
 use Prim.Native.Nat.{ℕ, zero, suc, _<_}
 use native.Mathlib.Omega.{arith}
 use native.Mathlib.Decide.{ℕ-discrete}
-use lib.ListN.{length, getD}
+use lib.ListN.{length}
 use Rattle.register.specs.declared.places.BurningPool.{BurningPool}
-use Rattle.register.specs.Places.{free, has}
+use Rattle.register.specs.Places.{has}
 use Rattle.history.specs.Claims.{AsLit}
 use Rattle.register.specs.Private.{first-of}
-use Rattle.register.proofs.ByNumber.{has-here, has-later, first-here, first-later, has-none, by-number}
+use Rattle.register.proofs.ByNumber.{pool-at, has-here, has-later, first-here, first-later, has-none, by-number}
 use Rattle.history.proofs.Lookup.{lookup, lookup-here, lookup-later, Sound}
-
-abbrev pub pool-at : List BurningPool → ℕ → BurningPool
-pool-at ps i = getD ps i free
 
 -- A pool stands at i, and is the one that is looked up.
 pub record FoundAt (n : ℕ) (ps : List BurningPool) (i : ℕ) : Type 0 where
@@ -36,7 +33,7 @@ found n =
     (record { there = omega (arith, later .there); number = later .number; looked-up = lookup-later n p ps e ∙ later .looked-up }))
 
 -- ---- any place
-pub has-at : (ps : List BurningPool) (i : ℕ) → i < length ps → has (pool-at ps i .number) ps ≡ true
+has-at : (ps : List BurningPool) (i : ℕ) → i < length ps → has (pool-at ps i .number) ps ≡ true
 has-at [] i l = absurd (omega arith)
 has-at (p ∷ ps) zero l = has-here (p .number) p ps refl
 has-at (p ∷ ps) (suc i) l =

@@ -1,10 +1,9 @@
 -- What is claimed of the register. From the register that follows its calls, by the laws of sound places. Assumes nothing.
 use mathlib.Core.Path.{_≡_, refl, sym, ap, _∙_}
 use mathlib.Core.Bool.{true, true≢false}
-use mathlib.Core.Option.{Option, none, some}
+use mathlib.Core.Option.{some, Option·some-injective}
 use mathlib.Core.List.{List, _∷_}
 use Prim.Native.Nat.{ℕ, zero, suc, _≤_, _<_}
-use native.Mathlib.Decide.{ℕ-discrete}
 use native.Mathlib.Omega.{arith}
 use Rattle.chain.specs.declared.enquiry.Enquiry.{Enquiry}
 use Rattle.chain.specs.Flux.{flux-of}
@@ -12,45 +11,17 @@ use Rattle.chain.proofs.Limits.{between}
 use Rattle.register.specs.declared.places.BurningPool.{BurningPool}
 use Rattle.register.specs.declared.places.Register.{Register}
 use Rattle.register.specs.declared.sums.Totals.{Totals}
-use Rattle.register.specs.Places.{free, has}
+use Rattle.register.specs.Places.{has}
 use Rattle.register.specs.Sums.{over-burning, how-many, sums-of}
-use Rattle.register.specs.Calls.{replaced}
 use Rattle.history.specs.History.{Call, Light, PutOut, called, after, history, lit-with, is-lit, over-numbers, afresh, due}
 use Rattle.history.specs.Claims.{place-at, Burns, AsLit, Claims}
-use Rattle.register.proofs.ByNumber.{has-later, has-none, sum-free, sum-burning, replaced-here, replaced-later, by-number}
-use Rattle.register.proofs.FirstPlace.{most-burn}
+use Rattle.register.proofs.FirstPlace.{most-burn, one-less}
 use Rattle.register.proofs.Outcomes.{by-light, by-put-out}
 use Rattle.history.proofs.Lookup.{lookup, has-lookup}
 use Rattle.history.proofs.Afresh.{same-sum, by-numbers}
 use Rattle.history.proofs.Follows.{Follows, follows}
 use Rattle.history.proofs.AtPlace.{FoundAt, found, lit-at, looked-up-at, once-at}
-use Rattle.history.proofs.Due.{answered-due}
-
--- One pool fewer, where the first place of a number is made free.
-one-less :
-    (n : ℕ) → (n ≡ 0 → ⊥) → (ps : List BurningPool) → has n ps ≡ true
-    → suc (over-burning (λ p. 1) (replaced n free ps)) ≡ over-burning (λ p. 1) ps
-one-less n k =
-    by-number n (λ ps. has n ps ≡ true → suc (over-burning (λ p. 1) (replaced n free ps)) ≡ over-burning (λ p. 1) ps)
-    (λ t. absurd (true≢false (sym t ∙ has-none n)))
-    (λ p ps e rest t.
-    let now = ap (over-burning (λ q. 1)) (replaced-here n p ps e free) ∙ sum-free (λ q. 1) free ps refl in
-    omega (arith, now, sum-burning (λ q. 1) p ps (λ z. k (sym e ∙ z))))
-    (λ p ps e rest t. later p ps e (rest (sym (has-later n p ps e) ∙ t)))
-  where
-    later :
-        (p : BurningPool) (ps : List BurningPool) → (p .number ≡ n → ⊥)
-        → suc (over-burning (λ q. 1) (replaced n free ps)) ≡ over-burning (λ q. 1) ps
-        → suc (over-burning (λ q. 1) (replaced n free (p ∷ ps))) ≡ over-burning (λ q. 1) (p ∷ ps)
-    later p ps e rest =
-        let now = ap (over-burning (λ q. 1)) (replaced-later n p ps e free) in
-        elim (ℕ-discrete (p .number) 0) [
-          | yes z ↦ omega (arith, now, rest, sum-free (λ q. 1) p (replaced n free ps) z, sum-free (λ q. 1) p ps z)
-          | no z ↦ omega (arith, now, rest, sum-burning (λ q. 1) p (replaced n free ps) z, sum-burning (λ q. 1) p ps z)
-        ]
-
-some-injective : {D E : Enquiry} → some D ≡ some E → D ≡ E
-some-injective {D} e = ap (λ (o : Option Enquiry). elim o [ none ↦ D | some x ↦ x ]) e
+use Rattle.history.proofs.Due.{answered-due, only-full}
 
 module _ (calls : List Call) where
   abbrev R : Register
@@ -65,7 +36,7 @@ module _ (calls : List Call) where
   -- ---- the pools
   in-place : (number i : ℕ) (E : Enquiry) → 1 ≤ number → FoundAt number (R .places) i → lookup number (R .places) ≡ some E → Burns R number E
   in-place number i E l at e =
-      let same : place-at R i .enquiry ≡ E = some-injective (sym (at .looked-up) ∙ e) in
+      let same : place-at R i .enquiry ≡ E = Option·some-injective _ _ (sym (at .looked-up) ∙ e) in
       record { place = i; there = omega (arith, at .there, f .long); least = l; number-there = at .number; enquiry = same }
 
   lit : (number : ℕ) (E : Enquiry) → lit-with number (history calls) ≡ some E → Burns R number E
@@ -107,16 +78,29 @@ module _ (calls : List Call) where
   answered : (c : Call) → called R c .state ≡ due (history calls) c
   answered c = answered-due R (history calls) burning (ap (λ (t : Totals). t .burning) sums) c
 
-  space : (number : ℕ) → called R (PutOut number) .state ≡ 0 → suc (sums-of (after (PutOut number ∷ calls)) .burning) ≡ how-many R
+  one-fewer : (number : ℕ) → called R (PutOut number) .state ≡ 0 → suc (sums-of (after (PutOut number ∷ calls)) .burning) ≡ how-many R
   unfolding after
-  space number =
+  one-fewer number =
       by-put-out R (λ s. s .state ≡ 0 → suc (how-many (s .register)) ≡ how-many R) (λ n p e. absurd (omega (arith, p, e))) number
       (λ o burns e. one-less number (λ z. omega (arith, z, between 1 255 number o .low)) (R .places) burns)
 
+-- With 52 due, 32 burn: no flux is refused by 52.
+full : (calls : List Call) (number : ℕ) (E : Enquiry) → called (after calls) (Light number E) .state ≡ 52 → 32 ≤ sums-of (after calls) .burning
+full calls number E e =
+    let many = ap (λ (t : Totals). t .burning) (sums calls) in
+    let due-52 = sym (answered calls (Light number E)) ∙ e in
+    omega (arith, many, only-full (history calls) number E due-52)
+
+space :
+    (calls : List Call) (number : ℕ) → called (after calls) (PutOut number) .state ≡ 0
+    → (another : ℕ) (E : Enquiry) → called (after (PutOut number ∷ calls)) (Light another E) .state ≡ 52 → ⊥
+space calls number e another E h =
+    omega (arith, one-fewer calls number e, full (PutOut number ∷ calls) another E h, most-burn (after calls .places), follows calls .long)
+
 -- ---- every register
-kept : (R : Register) (c : Call) (n : ℕ) → called R c .state ≡ suc n → called R c .register ≡ R
-kept R (Light number E) n = by-light R (λ s. s .state ≡ suc n → s .register ≡ R) (λ m p e. refl) number E (λ o h f z e. absurd (omega (arith, e)))
-kept R (PutOut number) n = by-put-out R (λ s. s .state ≡ suc n → s .register ≡ R) (λ m p e. refl) number (λ o h e. absurd (omega (arith, e)))
+kept : (R : Register) (c : Call) → 1 ≤ called R c .state → called R c .register ≡ R
+kept R (Light number E) = by-light R (λ s. 1 ≤ s .state → s .register ≡ R) (λ m p l. refl) number E (λ o h f z l. absurd (omega (arith, l)))
+kept R (PutOut number) = by-put-out R (λ s. 1 ≤ s .state → s .register ≡ R) (λ m p l. refl) number (λ o h l. absurd (omega (arith, l)))
 
 pub claims : Claims
 claims =
@@ -130,5 +114,6 @@ claims =
       once = once;
       answered = answered;
       kept = kept;
+      one-fewer = one-fewer;
       space = space;
     }

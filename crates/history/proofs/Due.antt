@@ -6,12 +6,14 @@ use mathlib.Core.List.{List}
 use Prim.Native.Nat.{ℕ, zero, suc, _≤_}
 use native.Mathlib.Omega.{arith}
 use lib.Dec.{leb, ltb}
-use borrow.Author.Tests.{lt-ltb}
+use borrow.Author.Tests.{lt-ltb, leb-true}
 use Rattle.pairs.specs.Figures.{refuse}
 use Rattle.chain.specs.Flux.{outside, flux-of}
+use Rattle.chain.specs.declared.enquiry.Enquiry.{Enquiry}
 use Rattle.chain.proofs.Limits.{between}
+use Rattle.chain.proofs.Accepted.{no-other-state}
 use Rattle.register.specs.declared.places.Register.{Register}
-use Rattle.register.specs.Places.{free, has}
+use Rattle.register.specs.Places.{vacant, has}
 use Rattle.register.specs.Sums.{how-many}
 use Rattle.register.specs.Calls.{Shown, refused, with-first, lit, light-of, put-out-of}
 use Rattle.history.specs.History.{Call, Light, PutOut, called, Answered, lit-with, is-lit, afresh, due}
@@ -45,5 +47,15 @@ module _ (R : Register) (h : List Answered) where
       ∙ ap (λ t. refuse t 51 (refuse (leb 32 (how-many R)) 52 (flux-of E .state))) (in-span number _ _ (burning number))
       ∙ ap (λ m. refuse (outside 1 255 number || is-lit (lit-with number h)) 51 (refuse (leb 32 m) 52 (flux-of E .state))) many
   answered-due burning many (PutOut number) =
-      state-of-out (outside 1 255 number || not (has number (R .places))) (with-first number free R) refl
+      state-of-out (outside 1 255 number || not (has number (R .places))) (with-first number vacant R) refl
       ∙ ap (λ t. refuse t 51 0) (in-span number _ _ (λ l. ap not (burning number l)))
+
+-- 52 is due only where 32 burn: no flux is refused by it.
+pub only-full : (h : List Answered) (number : ℕ) (E : Enquiry) → due h (Light number E) ≡ 52 → 32 ≤ afresh h .burning
+unfolding due
+only-full h number E = by-tests (outside 1 255 number || is-lit (lit-with number h)) (leb 32 (afresh h .burning)) refl
+  where
+    by-tests : (a b : Bool) → leb 32 (afresh h .burning) ≡ b → refuse a 51 (refuse b 52 (flux-of E .state)) ≡ 52 → 32 ≤ afresh h .burning
+    by-tests true b f e = absurd (omega (arith, e))
+    by-tests false true f e = leb-true 32 (afresh h .burning) f
+    by-tests false false f e = let z = no-other-state E 52 (λ n l u other k. omega arith) e in absurd (omega (arith, z))

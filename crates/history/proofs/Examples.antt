@@ -1,5 +1,5 @@
--- Lists of calls that fill the register, so that nothing is said of no pool at all: an accepted enquiry lit under the numbers 1 to 32, of
--- which each is accepted; then 33 is refused by 52, and accepted after a pool is put out. By what each call is due. The standard's enquiry
+-- Lists of calls that fill the register, so that the claims are not of the empty one alone: an accepted enquiry lit under the numbers 1 to
+-- 32, of which each is accepted; then 33 is refused by 52, and accepted after a pool is put out. By what each call is due. The standard's enquiry
 -- is one (ISO 24678-7, A.8). Assumes nothing.
 use mathlib.Core.Path.{_≡_, refl, sym, ap, _∙_}
 use mathlib.Core.Bool.{false}
@@ -109,7 +109,7 @@ module _ (E : Enquiry) (accepted : flux-of E .state ≡ 0) where
   pub space : called (after (PutOut 1 ∷ lights 32)) (Light 33 E) .state ≡ 0
   space =
       let h = history (PutOut 1 ∷ lights 32) in
-      let fewer = claims .space (lights 32) 1 put-out in
+      let fewer = claims .one-fewer (lights 32) 1 put-out in
       let most = claims .at-most (lights 32) in
       let afresh-is = ap (λ (t : Totals). t .burning) (claims .sums (PutOut 1 ∷ lights 32)) in
       let out = ap (lit-with 33) (next (lights 32) (PutOut 1) put-out) ∙ after-other (PutOut 1) (history (lights 32)) 33 (λ e. omega (arith, e)) ∙ alight 32 (lit≤ tt) .out 33 (lit< tt) in

@@ -7,7 +7,7 @@ use mathlib.Core.List.{List, [], _∷_}
 use Prim.Native.Nat.{ℕ, zero, suc, _≤_, _<_}
 use native.Mathlib.Omega.{arith}
 use native.Mathlib.Decide.{ℕ-discrete}
-use lib.ListN.{length, replicate, length-set, length-replicate}
+use lib.ListN.{length, replicate, length-replicate}
 use lib.Dec.{eqb}
 use borrow.Author.Tests.{eq-eqb, ne-eqb}
 use Rattle.chain.specs.declared.enquiry.Enquiry.{Enquiry}
@@ -15,12 +15,11 @@ use Rattle.chain.specs.Flux.{outside, flux-of}
 use Rattle.chain.proofs.Limits.{between}
 use Rattle.register.specs.declared.places.BurningPool.{BurningPool}
 use Rattle.register.specs.declared.places.Register.{Register}
-use Rattle.register.specs.Places.{free, has}
+use Rattle.register.specs.Places.{vacant, has}
 use Rattle.register.specs.Sums.{how-many}
 use Rattle.register.specs.Calls.{Shown, replaced, lit, with-first}
 use Rattle.history.specs.History.{Call, Light, PutOut, called, after, Answered, history, about, leaves, lit-with}
-use Rattle.register.specs.Private.{first-of}
-use Rattle.register.proofs.FirstPlace.{replaced-is-set, free-there}
+use Rattle.register.proofs.FirstPlace.{vacant-there, long-replaced}
 use Rattle.register.proofs.Outcomes.{by-light, by-put-out}
 use Rattle.history.proofs.Lookup.{lookup, lookup-none, lookup-later, lookup-other, lookup-pool, lookup-out, Beside, Sound, sound-replaced}
 
@@ -44,9 +43,6 @@ module _ (c : Call) (h : List Answered) (n : ℕ) where
   pub after-other : (about c ≡ n → ⊥) → lit-with n (record { call = c; state = 0 } ∷ h) ≡ lit-with n h
   unfolding lit-with
   after-other e = rw (ne-eqb (about c) n e, lit-with)
-
-pub long-replaced : (n : ℕ) (pool : BurningPool) (ps : List BurningPool) → length (replaced n pool ps) ≡ length ps
-long-replaced n pool ps = ap length (replaced-is-set n pool ps) ∙ length-set ps (first-of n ps) pool
 
 -- ---- one call
 module _ (R : Register) (h : List Answered) (f : Follows R h) where
@@ -86,28 +82,28 @@ module _ (R : Register) (h : List Answered) (f : Follows R h) where
       let within = between 1 255 number o in
       let new : Beside (lit number E) (R .places) = record { lit = record { most = omega (arith, within .high); low = refl; high = refl; accepted = e }; new = out } in
       changed (Light number E) 0 (lit number E) (within .low) (sound-replaced 0 (lit number E) (R .places) (λ k. new) (f .sound))
-      (lookup-pool 0 (lit number E) (R .places) (free-there (R .places) (f .long) space) out)
+      (lookup-pool 0 (lit number E) (R .places) (vacant-there (R .places) (f .long) space) out)
       (λ m l other. lookup-other 0 (lit number E) m other (λ z. omega (arith, z, l)) (R .places))
 
-  puts-out : (number : ℕ) → outside 1 255 number ≡ false → Next (PutOut number) (with-first number free R)
+  puts-out : (number : ℕ) → outside 1 255 number ≡ false → Next (PutOut number) (with-first number vacant R)
   puts-out number o =
       let within = between 1 255 number o in
-      changed (PutOut number) number free (within .low) (sound-replaced number free (R .places) (λ k. absurd (k refl)) (f .sound))
-      (lookup-out number free refl (λ z. omega (arith, z, within .low)) (R .places) (f .sound))
-      (λ m l other. lookup-other number free m (λ z. omega (arith, z, l)) other (R .places))
+      changed (PutOut number) number vacant (within .low) (sound-replaced number vacant (R .places) (λ k. absurd (k refl)) (f .sound))
+      (lookup-out number vacant refl (λ z. omega (arith, z, within .low)) (R .places) (f .sound))
+      (λ m l other. lookup-other number vacant m (λ z. omega (arith, z, l)) other (R .places))
 
   next : (c : Call) → Next c (called R c)
   next (Light number E) = by-light R (Next (Light number E)) (kept (Light number E)) number E (lights number E)
   next (PutOut number) = by-put-out R (Next (PutOut number)) (kept (PutOut number)) number (λ o burning. puts-out number o)
 
 -- ---- the empty register
-sound-free : (n : ℕ) → Sound (replicate n free)
-sound-free zero = tt
-sound-free (suc n) = (λ k. absurd (k refl), sound-free n)
+sound-vacant : (n : ℕ) → Sound (replicate n vacant)
+sound-vacant zero = tt
+sound-vacant (suc n) = (λ k. absurd (k refl), sound-vacant n)
 
-lookup-free : (m : ℕ) → 1 ≤ m → (n : ℕ) → lookup m (replicate n free) ≡ none
-lookup-free m l zero = lookup-none m
-lookup-free m l (suc n) = lookup-later m free (replicate n free) (λ e. omega (arith, e, l)) ∙ lookup-free m l n
+lookup-vacant : (m : ℕ) → 1 ≤ m → (n : ℕ) → lookup m (replicate n vacant) ≡ none
+lookup-vacant m l zero = lookup-none m
+lookup-vacant m l (suc n) = lookup-later m vacant (replicate n vacant) (λ e. omega (arith, e, l)) ∙ lookup-vacant m l n
 
 pub nothing-lit : (n : ℕ) → lit-with n [] ≡ none
 unfolding lit-with
@@ -117,9 +113,9 @@ pub follows : (calls : List Call) → Follows (after calls) (history calls)
 unfolding after history
 follows [] =
     record {
-      long = length-replicate 32 free;
-      sound = sound-free 32;
-      same = λ n l. lookup-free n l 32 ∙ sym (nothing-lit n);
+      long = length-replicate 32 vacant;
+      sound = sound-vacant 32;
+      same = λ n l. lookup-vacant n l 32 ∙ sym (nothing-lit n);
       no-zero = nothing-lit 0;
     }
 follows (c ∷ earlier) = next (after earlier) (history earlier) (follows earlier) c

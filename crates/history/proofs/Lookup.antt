@@ -49,7 +49,7 @@ no-lookup n =
 -- ---- another pool in the first place of a number
 module _ (n : ℕ) (pool : BurningPool) where
   -- A number that neither had has no place.
-  pub has-replaced :
+  has-replaced :
       (m : ℕ) → (pool .number ≡ m → ⊥) → (ps : List BurningPool) → has m ps ≡ false → has m (replaced n pool ps) ≡ false
   has-replaced m other =
       by-number n (λ ps. has m ps ≡ false → has m (replaced n pool ps) ≡ false) (λ h. ap (has m) (replaced-none n pool) ∙ h)
@@ -115,7 +115,7 @@ module _ (n : ℕ) (pool : BurningPool) where
       subst Sound (sym (replaced-here n p ps e pool)) (λ k. beside-later pool p ps (b k), s .1))
       (λ p ps e rest b s. subst Sound (sym (replaced-later n p ps e pool)) (beside-replaced p ps b s, rest (λ k. beside-later pool p ps (b k)) (s .1)))
 
-  -- The number is out where its first place is free.
+  -- The number is out where its first place is vacant.
   pub lookup-out : pool .number ≡ 0 → (n ≡ 0 → ⊥) → (ps : List BurningPool) → Sound ps → lookup n (replaced n pool ps) ≡ none
   lookup-out z k =
       by-number n (λ ps. Sound ps → lookup n (replaced n pool ps) ≡ none) (λ s. ap (lookup n) (replaced-none n pool) ∙ lookup-none n)

@@ -8,12 +8,12 @@ use Rattle.chain.specs.declared.enquiry.Enquiry.{Enquiry}
 use Rattle.chain.specs.Flux.{flux-of}
 use Rattle.register.specs.declared.places.BurningPool.{BurningPool}
 use Rattle.register.specs.declared.places.Register.{Register}
-use Rattle.register.specs.Places.{free}
+use Rattle.register.specs.Places.{vacant}
 use Rattle.register.specs.Sums.{sums-of}
-use Rattle.history.specs.History.{Call, PutOut, called, after, history, lit-with, afresh, due}
+use Rattle.history.specs.History.{Call, Light, PutOut, called, after, history, lit-with, afresh, due}
 
 abbrev pub place-at : Register → ℕ → BurningPool
-place-at R i = getD (R .places) i free
+place-at R i = getD (R .places) i vacant
 
 -- A pool burns at a place of the register, with this enquiry.
 pub record Burns (R : Register) (number : ℕ) (E : Enquiry) : Type 0 where
@@ -47,8 +47,11 @@ pub record Claims : Type 0 where
   -- each call is refused by 51, 52 or the flux's own exactly as said, and else accepted
   pub answered : (calls : List Call) (c : Call) → called (after calls) c .state ≡ due (history calls) c
   -- "All refusals keep the register.": every register, also one that no call makes
-  pub kept : (R : Register) (c : Call) (n : ℕ) → called R c .state ≡ suc n → called R c .register ≡ R
-  -- "A pool put out makes space for another."
-  pub space :
+  pub kept : (R : Register) (c : Call) → 1 ≤ called R c .state → called R c .register ≡ R
+  -- "A pool put out makes space for another.": one fewer burns, and no lighting is refused by 52 then
+  pub one-fewer :
       (calls : List Call) (number : ℕ) → called (after calls) (PutOut number) .state ≡ 0
       → suc (sums-of (after (PutOut number ∷ calls)) .burning) ≡ sums-of (after calls) .burning
+  pub space :
+      (calls : List Call) (number : ℕ) → called (after calls) (PutOut number) .state ≡ 0
+      → (another : ℕ) (E : Enquiry) → called (after (PutOut number ∷ calls)) (Light another E) .state ≡ 52 → ⊥

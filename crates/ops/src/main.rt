@@ -1,11 +1,11 @@
 // Reads lines, each a name and its numbers, and prints what is answered: the state (0, or the number of the refusal), for a stand-off the
-// distance in decimetres, for a free place its row and place, the two ends, and for an enquiry the note. A line that cannot be read prints
-// `unreadable`.
+// distance in decimetres, for a free place its row and place, for a call on the register how many pools burn, the two ends or sums, and for
+// an enquiry the note. A line that cannot be read prints `unreadable`. The register is empty at the start and goes from line to line.
 mod call;
 mod enquiry;
 mod from_limit;
 mod line;
-mod lit;
+mod register_lines;
 mod shape;
 
 use call::Reply;
@@ -19,9 +19,6 @@ use libc::STDIN_FILENO;
 use libc::STDOUT_FILENO;
 use line::numbers_in;
 use line::place_of;
-use lit::Registered;
-use lit::light_of;
-use lit::out_of;
 use pairs::answer::Answer;
 use planning::free_place::FreePlace;
 use planning::stand_off::StandOff;
@@ -29,6 +26,9 @@ use register::calls::Outcome;
 use register::places::Register;
 use register::places::empty;
 use register::sums::Totals;
+use register_lines::ReplyAndRegister;
+use register_lines::light_of;
+use register_lines::out_of;
 
 // 21 to 23 of document 01.
 fn outside_number(why: Outside) -> u64 {
@@ -50,9 +50,10 @@ fn print_pair(state: u64, low: u64, high: u64) {
     print_after_blank(high);
 }
 
-fn print_pair_at(state: u64, decimetres: u64, low: u64, high: u64) {
+// A number before the two ends.
+fn print_number_and_pair(state: u64, n: u64, low: u64, high: u64) {
     io::print_decimal(STDOUT_FILENO, state);
-    print_after_blank(decimetres);
+    print_after_blank(n);
     print_after_blank(low);
     print_after_blank(high);
 }
@@ -91,9 +92,14 @@ fn print_flux(f: Flux) {
 // 41 of document 02, after the flux's own.
 fn print_stand_off(s: StandOff) {
     match s {
-        StandOff::Is(p) => print_pair_at(0, p.decimetres as u64, p.low as u64, p.high as u64),
-        StandOff::Refused(why) => print_pair_at(number(why) as u64, 0, 0, 0),
-        StandOff::OverLimit => print_pair_at(41, 0, 0, 0),
+        StandOff::Is(p) => print_number_and_pair(
+            0,
+            p.decimetres as u64,
+            p.low as u64,
+            p.high as u64,
+        ),
+        StandOff::Refused(why) => print_number_and_pair(number(why) as u64, 0, 0, 0),
+        StandOff::OverLimit => print_number_and_pair(41, 0, 0, 0),
     }
 }
 
@@ -131,11 +137,8 @@ fn outcome_number(o: Outcome) -> u64 {
     }
 }
 
-fn print_totals(state: u64, t: Totals) {
-    io::print_decimal(STDOUT_FILENO, state);
-    print_after_blank(t.burning as u64);
-    print_after_blank(t.lows);
-    print_after_blank(t.highs);
+fn print_totals(o: Outcome, t: Totals) {
+    print_number_and_pair(outcome_number(o), t.burning as u64, t.lows, t.highs);
 }
 
 fn print_reply(r: Reply) {
@@ -145,7 +148,7 @@ fn print_reply(r: Reply) {
         Reply::FactorAlone(f) => print_factor(f),
         Reply::StandOff(s) => print_stand_off(s),
         Reply::FreePlace(f) => print_free_place(f),
-        Reply::Register(o, t) => print_totals(outcome_number(o), t),
+        Reply::Register(o, t) => print_totals(o, t),
         Reply::Unreadable => {
             io::write_all(STDOUT_FILENO, b"unreadable");
         }
@@ -153,10 +156,10 @@ fn print_reply(r: Reply) {
     io::write_all(STDOUT_FILENO, b"\n");
 }
 
-fn print_registered(k: Registered) -> Register {
-    let reply = k.reply;
+fn print_and_keep(answered: ReplyAndRegister) -> Register {
+    let reply = answered.reply;
     print_reply(reply);
-    k.register
+    answered.register
 }
 
 // Answers a line, and gives back the register after it.
@@ -164,21 +167,21 @@ fn answer_line(line: &[u8], r: Register) -> Register {
     let end = place_of(line, b' ', 0);
     let ns = numbers_in(&line[end..]);
     if same(&line[0..end], b"light") {
-        return print_registered(light_of(r, ns));
+        return print_and_keep(light_of(r, ns));
     }
     if same(&line[0..end], b"out") {
-        return print_registered(out_of(r, ns));
+        return print_and_keep(out_of(r, ns));
     }
     print_reply(called(&line[0..end], ns));
     r
 }
 
 fn answer_lines(text: &[u8]) {
-    let mut burning = empty();
+    let mut register = empty();
     let mut at = 0;
     while at < text.len() {
         let end = place_of(text, b'\n', at);
-        burning = answer_line(&text[at..end], burning);
+        register = answer_line(&text[at..end], register);
         at = end + 1;
     }
 }

@@ -5,12 +5,17 @@ use mathlib.Core.Bool.{true, false, true≢false}
 use mathlib.Core.List.{List, [], _∷_}
 use Prim.Native.Nat.{ℕ, zero, suc, _+_}
 use native.Mathlib.Decide.{ℕ-discrete}
+use lib.ListN.{getD}
 use borrow.Author.Tests.{eq-eqb, ne-eqb}
 use Rattle.register.specs.declared.places.BurningPool.{BurningPool}
-use Rattle.register.specs.Places.{has}
+use Rattle.register.specs.Places.{vacant, has}
 use Rattle.register.specs.Sums.{over-burning}
 use Rattle.register.specs.Calls.{replaced}
 use Rattle.register.specs.Private.{first-of}
+
+-- The pool at a place.
+abbrev pub pool-at : List BurningPool → ℕ → BurningPool
+pool-at ps i = getD ps i vacant
 
 module _ (n : ℕ) (p : BurningPool) (ps : List BurningPool) where
   -- ---- it has the number
@@ -50,9 +55,9 @@ module _ (n : ℕ) (p : BurningPool) (ps : List BurningPool) where
     not-later = sym (has-later not-here) ∙ h
 
 module _ (figure : BurningPool → ℕ) (p : BurningPool) (ps : List BurningPool) where
-  pub sum-free : p .number ≡ 0 → over-burning figure (p ∷ ps) ≡ over-burning figure ps
+  pub sum-vacant : p .number ≡ 0 → over-burning figure (p ∷ ps) ≡ over-burning figure ps
   unfolding over-burning
-  sum-free e = rw (eq-eqb _ _ e, over-burning)
+  sum-vacant e = rw (eq-eqb _ _ e, over-burning)
 
   pub sum-burning : (p .number ≡ 0 → ⊥) → over-burning figure (p ∷ ps) ≡ figure p + over-burning figure ps
   unfolding over-burning
@@ -62,6 +67,10 @@ module _ (figure : BurningPool → ℕ) (p : BurningPool) (ps : List BurningPool
 pub has-none : (n : ℕ) → has n [] ≡ false
 unfolding has
 has-none n = refl
+
+pub first-none : (n : ℕ) → first-of n [] ≡ zero
+unfolding first-of
+first-none n = refl
 
 pub replaced-none : (n : ℕ) (pool : BurningPool) → replaced n pool [] ≡ []
 unfolding replaced

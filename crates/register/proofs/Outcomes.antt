@@ -13,11 +13,11 @@ use Rattle.chain.specs.Flux as flux
 use Rattle.chain.specs.Flux.{outside, flux-of}
 use Rattle.register.specs.declared.places.BurningPool.{BurningPool}
 use Rattle.register.specs.declared.places.Register.{Register}
-use Rattle.register.specs.Places.{free, has}
+use Rattle.register.specs.Places.{vacant, has}
 use Rattle.register.specs.Sums.{how-many}
 use Rattle.register.specs.Calls.{Shown, refused, accepted, with-first, lit, light-of, put-out-of}
 use Rattle.register.specs.Private.{first-of}
-use Rattle.register.proofs.FirstPlace.{has-place, no-place, replaced-is-set, one-free, all-burn}
+use Rattle.register.proofs.FirstPlace.{has-place, no-place, replaced-is-set, one-vacant, all-burn}
 
 -- A register with a pool in the first place of a number.
 pub first-set :
@@ -68,7 +68,7 @@ module _ (R : Register) (number : ℕ) where
     unfolding put-out-of
     out-not-burning h = rw (o, h)
 
-    pub out-accepted : has number (R .places) ≡ true → put-out-of R number ≡ with-first number free R
+    pub out-accepted : has number (R .places) ≡ true → put-out-of R number ≡ with-first number vacant R
     unfolding put-out-of
     out-accepted h = rw (o, h)
 
@@ -97,7 +97,7 @@ module _ (R : Register) (P : Shown → Type 0) (refusal : (n : ℕ) → 0 < n �
       by-number-test false o = by-burning o (has number (R .places)) refl
 
   pub by-put-out :
-      (number : ℕ) → (outside 1 255 number ≡ false → has number (R .places) ≡ true → P (with-first number free R)) → P (put-out-of R number)
+      (number : ℕ) → (outside 1 255 number ≡ false → has number (R .places) ≡ true → P (with-first number vacant R)) → P (put-out-of R number)
   by-put-out number accepted = by-number-test (outside 1 255 number) refl
     where
       by-burning : outside 1 255 number ≡ false → (b : Bool) → has number (R .places) ≡ b → P (put-out-of R number)
@@ -119,7 +119,7 @@ module _ (R : Register) (long : length (R .places) ≡ 32) (i : ℕ) where
 
   module _ (at : i ≡ first-of 0 (R .places)) where
     pub space-by : i < 32 → how-many R < 32
-    space-by l = let f = one-free (R .places) (omega (arith, at, long)) in omega (arith, f, long)
+    space-by l = let f = one-vacant (R .places) (omega (arith, at, long)) in omega (arith, f, long)
 
     pub full-by : 32 ≤ i → 32 ≤ how-many R
     full-by l = let f = all-burn (R .places) (omega (arith, at, long)) in omega (arith, f, long)

@@ -11,7 +11,7 @@ use Rattle.register.specs.declared.places.Register.{Register}
 use Rattle.register.specs.declared.calls.Outcome.{Outcome}
 use Rattle.register.specs.declared.calls.Outcome.the-variants.{Accepted, NumberRefused, Full, FluxRefused}
 use Rattle.register.specs.declared.calls.Called.{Called}
-use Rattle.register.specs.Places.{free, has}
+use Rattle.register.specs.Places.{vacant, has}
 use Rattle.register.specs.Sums.{how-many}
 
 -- The state as this paper shows it, and the register after the call.
@@ -58,8 +58,8 @@ light-of R number E =
     (refuse (ltb 0 (flux-of E .state)) (refused (flux-of E .state) R)
     (with-first 0 (lit number E) R)))
 
--- "51, .. or not burning when put out"; "A pool put out makes space for another.": its place is free.
+-- "51, .. or not burning when put out"; "A pool put out makes space for another.": its place is vacant.
 unfoldable pub put-out-of : Register → ℕ → Shown
 put-out-of R number =
     refuse (outside 1 255 number || not (has number (R .places))) (refused 51 R)
-    (with-first number free R)
+    (with-first number vacant R)

@@ -9,8 +9,8 @@ use Rattle.register.specs.declared.places.BurningPool.{BurningPool}
 use Rattle.register.specs.declared.places.Register.{Register}
 
 -- A place where no pool burns: it has the number 0.
-abbrev pub free : BurningPool
-free =
+abbrev pub vacant : BurningPool
+vacant =
     record {
       number = 0;
       enquiry =
@@ -31,7 +31,7 @@ free =
 
 -- "an empty register"
 abbrev pub no-pools : Register
-no-pools = record { places = replicate 32 free }
+no-pools = record { places = replicate 32 vacant }
 
 -- Whether a place has the number; of a number from 1, whether the pool "is burning".
 unfoldable pub has : ℕ → List BurningPool → Bool

@@ -7,7 +7,7 @@ use Rattle.register.specs.declared.places.BurningPool.{BurningPool}
 use Rattle.register.specs.declared.places.Register.{Register}
 use Rattle.register.specs.declared.sums.Totals.{Totals}
 
--- A figure of each burning pool, summed; a place of number 0 is free.
+-- A figure of each burning pool, summed; a place of number 0 is vacant.
 unfoldable pub over-burning : (BurningPool → ℕ) → List BurningPool → ℕ
 over-burning figure [] = 0
 over-burning figure (p ∷ ps) =

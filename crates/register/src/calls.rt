@@ -1,8 +1,8 @@
 // The two calls: a pool is lit or put out. A register goes in, and comes back beside what is answered.
 use super::places::BurningPool;
 use super::places::Register;
-use super::places::free_place;
 use super::places::place_of;
+use super::places::vacant_place;
 use super::places::with_pool;
 use chain::enquiry::Enquiry;
 use chain::enquiry::Flux;
@@ -55,7 +55,7 @@ fn accepted(changed: Register) -> Called
     }
 }
 
-// Lights a pool under a number, with its enquiry, in the first free place.
+// Lights a pool under a number, with its enquiry, in the first vacant place.
 pub fn light(r: Register, number: u32, e: Enquiry) -> Called
     ensures { λ c. ⌜ shown c ≡ light-of r number e ⌝ }
 {
@@ -66,8 +66,8 @@ pub fn light(r: Register, number: u32, e: Enquiry) -> Called
     if place_of(r, pool) < 32 {
         return refused(Outcome::NumberRefused, r);
     }
-    let free = place_of(r, 0);
-    if 32 <= free {
+    let at = place_of(r, 0);
+    if 32 <= at {
         return refused(Outcome::Full, r);
     }
     let f = flux(e);
@@ -75,7 +75,7 @@ pub fn light(r: Register, number: u32, e: Enquiry) -> Called
         Flux::Refused(why) => refused(Outcome::FluxRefused(why), r),
         Flux::Is(p) => accepted(with_pool(
             r,
-            free,
+            at,
             BurningPool {
                 number: pool,
                 enquiry: e,
@@ -86,7 +86,7 @@ pub fn light(r: Register, number: u32, e: Enquiry) -> Called
     }
 }
 
-// Puts out the pool of a number: its place is free again.
+// Puts out the pool of a number: its place is vacant again.
 pub fn put_out(r: Register, number: u32) -> Called
     ensures { λ c. ⌜ shown c ≡ put-out-of r number ⌝ }
 {
@@ -98,5 +98,5 @@ pub fn put_out(r: Register, number: u32) -> Called
     if 32 <= at {
         return refused(Outcome::NumberRefused, r);
     }
-    accepted(with_pool(r, at, free_place()))
+    accepted(with_pool(r, at, vacant_place()))
 }

@@ -3,7 +3,7 @@ use chain::enquiry::Enquiry;
 ghost use mathlib.Core.Path.{_≡_};
 ghost use Prim.Native.Nat.{_<_};
 ghost use lib.ListN.{set};
-ghost use Rattle.register.specs.Places.{free, no-pools};
+ghost use Rattle.register.specs.Places.{vacant, no-pools};
 ghost use Rattle.register.specs.Private.{first-of};
 
 // A place of the register: the number of the pool that burns there, 0 where none does; its enquiry; and low and high of its flux, W/m².
@@ -19,8 +19,8 @@ pub struct Register {
 }
 
 // A place where no pool burns.
-pub(crate) fn free_place() -> BurningPool
-    ensures { λ r. ⌜ r ≡ free ⌝ }
+pub(crate) fn vacant_place() -> BurningPool
+    ensures { λ r. ⌜ r ≡ vacant ⌝ }
 {
     BurningPool {
         number: 0,
@@ -45,11 +45,11 @@ pub fn empty() -> Register
     ensures { λ r. ⌜ r ≡ no-pools ⌝ }
 {
     Register {
-        places: [free_place(); 32],
+        places: [vacant_place(); 32],
     }
 }
 
-// The first place that has a number, 32 where none has; 0 is the number of a free place.
+// The first place that has a number, 32 where none has; 0 is the number of a vacant place.
 pub(crate) fn place_of(r: Register, number: u8) -> usize
     ensures { λ at. ⌜ at ≡ first-of number (r .places) ⌝ }
 {

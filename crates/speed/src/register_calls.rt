@@ -51,17 +51,17 @@ fn with_totals(total: u64, t: Totals) -> u64 {
 
 // The check sum of `count` calls and of the sums after them; of the sums after each call where they are asked for.
 pub(crate) fn calls_sum(count: u64, after_each: bool) -> u64 {
-    let mut burning = empty();
+    let mut register = empty();
     let mut total: u64 = 0;
     for n in 0..count {
-        let c = nth_call(burning, n);
+        let c = nth_call(register, n);
         let o = c.outcome;
         let next = c.register;
         total = with_outcome(total, o);
         if after_each {
             total = with_totals(total, sums(next));
         }
-        burning = next;
+        register = next;
     }
-    with_totals(total, sums(burning))
+    with_totals(total, sums(register))
 }

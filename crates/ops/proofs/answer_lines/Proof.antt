@@ -7,10 +7,10 @@ use Rattle.ops.proofs.answer_lines.Statement.{statement}
 use Rattle.ops.proofs.answer_lines.Tie as tie
 
 abbrev Inv-loop : tie.InvT-loop
-Inv-loop text burning₀ at₀ burning at = Unit {0}
+Inv-loop text register₀ at₀ register at = Unit {0}
 
 abbrev μ-loop : tie.MeasureT-loop
-μ-loop text burning₀ at₀ burning at = length text - at
+μ-loop text register₀ at₀ register at = length text - at
 
 empty-requires : tie.Need-empty-requires Inv-loop μ-loop
 empty-requires c κs = search needs

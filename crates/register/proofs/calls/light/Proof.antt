@@ -1,4 +1,4 @@
--- `light` meets its contract: each refusal, and the pool in the first free place, from what the two searches find. Assumes nothing.
+-- `light` meets its contract: each refusal, and the pool in the first vacant place, from what the two searches find. Assumes nothing.
 use mathlib.Core.Path.{sym, ap, _∙_}
 use native.Mathlib.Omega.{arith}
 use Rattle.chain.specs.Flux.{Shown, shown}

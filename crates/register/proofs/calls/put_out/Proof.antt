@@ -1,4 +1,4 @@
--- `put_out` meets its contract: each refusal, and the first place of the number made free. Assumes nothing.
+-- `put_out` meets its contract: each refusal, and the first place of the number made vacant. Assumes nothing.
 use mathlib.Core.Path.{sym, _∙_}
 use native.Mathlib.Omega.{arith}
 use Rattle.chain.proofs.Limits.{between}
@@ -35,8 +35,8 @@ returns-2 c =
     let o = sym (e1 .before .number-outside .ensures) ∙ e1 .if1 .left in
     c .refused2 .ensures ∙ sym (out-not-burning _ _ o (not-burning-by _ long _ _ (t2 .before .place-of .ensures) (omega (arith, t2 .if2 .taken))))
 
-free-place-requires : tie.Need-free-place-requires
-free-place-requires c κs = search needs
+vacant-place-requires : tie.Need-vacant-place-requires
+vacant-place-requires c κs = search needs
 
 with-pool-requires : tie.Need-with-pool-requires
 with-pool-requires c κs = search needs
@@ -54,7 +54,7 @@ returns-3 c =
     let o = sym (e1 .before .number-outside .ensures) ∙ e1 .if1 .left in
     c .accepted .ensures
     ∙ first-set _ (s .args .r) (e2 .before .place-of .result) (e2 .before .place-of .ensures) (w .with-pool .result) (w .with-pool .ensures)
-    (w .before .free-place .ensures)
+    (w .before .vacant-place .ensures)
     ∙ sym (out-accepted _ _ o (burning-by _ long _ _ (e2 .before .place-of .ensures) (omega (arith, e2 .if2 .left))))
 
 pub put-out-spec : {M : Type 1} → statement M
@@ -68,7 +68,7 @@ put-out-spec =
     place-of-requires
     refused-requires-2
     returns-2
-    free-place-requires
+    vacant-place-requires
     with-pool-requires
     accepted-requires
     returns-3)

@@ -6,7 +6,7 @@ use native.Mathlib.Omega.{arith}
 use lib.ListN.{length}
 use borrow.Author.Needs.{needs}
 use Rattle.register.specs.declared.sums.Totals.{Totals}
-use Rattle.register.proofs.Rest.{as-long, SumBefore, free-passed, burning-passed, whole}
+use Rattle.register.proofs.Rest.{as-long, SumBefore, vacant-passed, burning-passed, whole}
 use Rattle.register.proofs.sums.sums.Statement.{statement}
 use Rattle.register.proofs.sums.sums.Tie as tie
 
@@ -72,9 +72,9 @@ loop-again c =
       omega (arith, e .1),
       omega (arith, e .2),
       omega (arith, e .3),
-      free-passed (λ p. 1) ps (l .i) (l .burning) (c .if1 .burning) there (e .0 .left) (e .1) (l .inv .4),
-      free-passed (λ p. p .low) ps (l .i) (l .lows) (c .if1 .lows) there (e .0 .left) (e .2) (l .inv .5),
-      free-passed (λ p. p .high) ps (l .i) (l .highs) (c .if1 .highs) there (e .0 .left) (e .3) (l .inv .6),
+      vacant-passed (λ p. 1) ps (l .i) (l .burning) (c .if1 .burning) there (e .0 .left) (e .1) (l .inv .4),
+      vacant-passed (λ p. p .low) ps (l .i) (l .lows) (c .if1 .lows) there (e .0 .left) (e .2) (l .inv .5),
+      vacant-passed (λ p. p .high) ps (l .i) (l .highs) (c .if1 .highs) there (e .0 .left) (e .3) (l .inv .6),
     ))
     (c .if1 .came)
 

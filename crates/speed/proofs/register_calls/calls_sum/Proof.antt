@@ -5,10 +5,10 @@ use Rattle.speed.proofs.register_calls.calls_sum.Statement.{statement}
 use Rattle.speed.proofs.register_calls.calls_sum.Tie as tie
 
 abbrev Inv-loop : tie.InvT-loop
-Inv-loop count after-each burning₀ total₀ n₀ burning total n = Unit {0}
+Inv-loop count after-each register₀ total₀ n₀ register total n = Unit {0}
 
 abbrev μ-loop : tie.MeasureT-loop
-μ-loop count after-each burning₀ total₀ n₀ burning total n = count - n
+μ-loop count after-each register₀ total₀ n₀ register total n = count - n
 
 empty-requires : tie.Need-empty-requires Inv-loop μ-loop
 empty-requires c κs = search needs

@@ -11,24 +11,24 @@ use register::places::Register;
 use register::sums::sums;
 
 // What a line is answered, and the register after it.
-pub(crate) struct Registered {
+pub(crate) struct ReplyAndRegister {
     pub(crate) reply: Reply,
     pub(crate) register: Register,
 }
 
-fn after_call(c: Called) -> Registered {
+fn after_call(c: Called) -> ReplyAndRegister {
     let outcome = c.outcome;
     let register = c.register;
-    Registered {
+    ReplyAndRegister {
         reply: Reply::Register(outcome, sums(register)),
         register,
     }
 }
 
 // A line `light N m k c a method d face height transmissivity`.
-pub(crate) fn light_of(r: Register, ns: Numbers) -> Registered {
+pub(crate) fn light_of(r: Register, ns: Numbers) -> ReplyAndRegister {
     if !has_shape(ns, b"whhhwbwbsh") {
-        return Registered {
+        return ReplyAndRegister {
             reply: Reply::Unreadable,
             register: r,
         };
@@ -39,9 +39,9 @@ pub(crate) fn light_of(r: Register, ns: Numbers) -> Registered {
 }
 
 // A line `out N`.
-pub(crate) fn out_of(r: Register, ns: Numbers) -> Registered {
+pub(crate) fn out_of(r: Register, ns: Numbers) -> ReplyAndRegister {
     if !has_shape(ns, b"w") {
-        return Registered {
+        return ReplyAndRegister {
             reply: Reply::Unreadable,
             register: r,
         };
