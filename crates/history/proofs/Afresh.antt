@@ -56,8 +56,8 @@ module _ (figure : Enquiry → ℕ) where
 
   -- The sum over sound places, by the numbers of their pools.
   module _ (of-pool : BurningPool → ℕ) (same : (p : BurningPool) → AsLit p → of-pool p ≡ figure (p .enquiry)) where
-    pub by-numbers : (ps : List BurningPool) → Sound ps → over-burning of-pool ps ≡ over-numbers figure (λ n. lookup n ps) 255
-    by-numbers =
+    pub sum-by-number : (ps : List BurningPool) → Sound ps → over-burning of-pool ps ≡ over-numbers figure (λ n. lookup n ps) 255
+    sum-by-number =
         by-number 0 (λ ps. Sound ps → over-burning of-pool ps ≡ over-numbers figure (λ n. lookup n ps) 255)
         (λ s. sum-none of-pool ∙ sym (no-pools-sum (λ n. lookup n []) lookup-none 255))
         (λ p ps e rest s.
@@ -70,3 +70,22 @@ module _ (figure : Enquiry → ℕ) where
         (λ k other. sym (lookup-later k p ps other)) 255 (omega (arith, e)) (b .lit .most)
         in
         omega (arith, sum-burning of-pool p ps e, rest (s .1), same p (b .lit), more))
+
+-- At most one more burns where only one number may differ.
+one-each : (o : Option Enquiry) → figure-of (λ E. 1) o ≤ 1
+one-each none = omega arith
+one-each (some E) = omega arith
+
+pub at-most-one-more :
+    (a b : ℕ → Option Enquiry) (m : ℕ) → ((k : ℕ) → (m ≡ k → ⊥) → b k ≡ a k)
+    → (n : ℕ) → over-numbers (λ E. 1) b n ≤ suc (over-numbers (λ E. 1) a n)
+at-most-one-more a b m other zero = omega (arith, sum-zero (λ E. 1) b)
+at-most-one-more a b m other (suc n) =
+    elim (ℕ-discrete m (suc n)) [
+      | yes k ↦
+          let rest = same-sum (λ E. 1) b a n (λ j l h. other j (λ e. omega (arith, e, k, h))) in
+          omega (arith, sum-next (λ E. 1) a n, sum-next (λ E. 1) b n, one-each (b (suc n)), rest)
+      | no k ↦
+          let here = ap (figure-of (λ E. 1)) (other (suc n) k) in
+          omega (arith, sum-next (λ E. 1) a n, sum-next (λ E. 1) b n, here, at-most-one-more a b m other n)
+    ]

@@ -18,7 +18,7 @@ use Rattle.history.specs.Claims.{place-at, Burns, AsLit, Claims}
 use Rattle.register.proofs.FirstPlace.{most-burn, one-less}
 use Rattle.register.proofs.Outcomes.{by-light, by-put-out}
 use Rattle.history.proofs.Lookup.{lookup, has-lookup}
-use Rattle.history.proofs.Afresh.{same-sum, by-numbers}
+use Rattle.history.proofs.Afresh.{same-sum, sum-by-number}
 use Rattle.history.proofs.Follows.{Follows, follows}
 use Rattle.history.proofs.AtPlace.{FoundAt, found, lit-at, looked-up-at, once-at}
 use Rattle.history.proofs.Due.{answered-due, only-full}
@@ -63,7 +63,7 @@ module _ (calls : List Call) where
       (of-pool : BurningPool → ℕ) (figure : Enquiry → ℕ) → ((p : BurningPool) → AsLit p → of-pool p ≡ figure (p .enquiry))
       → over-burning of-pool (R .places) ≡ over-numbers figure (λ n. lit-with n (history calls)) 255
   sum-afresh of-pool figure same =
-      by-numbers figure of-pool same (R .places) (f .sound)
+      sum-by-number figure of-pool same (R .places) (f .sound)
       ∙ same-sum figure (λ n. lookup n (R .places)) (λ n. lit-with n (history calls)) 255 (λ m l h. f .same m l)
 
   sums : sums-of R ≡ afresh (history calls)

@@ -2,21 +2,22 @@
 -- Assumes nothing.
 use mathlib.Core.Path.{_≡_, refl, ap, _∙_}
 use mathlib.Core.Bool.{Bool, true, false, _||_, not}
+use mathlib.Core.Option.{Option, none, some}
 use mathlib.Core.List.{List}
-use Prim.Native.Nat.{ℕ, zero, suc, _≤_}
+use Prim.Native.Nat.{ℕ, zero, suc, _≤_, _<_}
 use native.Mathlib.Omega.{arith}
 use lib.Dec.{leb, ltb}
-use borrow.Author.Tests.{lt-ltb, leb-true}
+use borrow.Author.Tests.{lt-ltb, leb-true, le-leb, lt-leb}
 use Rattle.pairs.specs.Figures.{refuse}
 use Rattle.chain.specs.Flux.{outside, flux-of}
 use Rattle.chain.specs.declared.enquiry.Enquiry.{Enquiry}
-use Rattle.chain.proofs.Limits.{between}
+use Rattle.chain.proofs.Limits.{between, inside}
 use Rattle.chain.proofs.Accepted.{no-other-state}
 use Rattle.register.specs.declared.places.Register.{Register}
 use Rattle.register.specs.Places.{vacant, has}
 use Rattle.register.specs.Sums.{how-many}
 use Rattle.register.specs.Calls.{Shown, refused, with-first, lit, light-of, put-out-of}
-use Rattle.history.specs.History.{Call, Light, PutOut, called, Answered, lit-with, is-lit, afresh, due}
+use Rattle.history.specs.History.{Call, Light, PutOut, called, Answered, about, lit-with, is-lit, afresh, due}
 
 -- Whether a pool burns counts from number 1 on.
 in-span : (number : ℕ) (a b : Bool) → (1 ≤ number → a ≡ b) → (outside 1 255 number || a) ≡ (outside 1 255 number || b)
@@ -59,3 +60,29 @@ only-full h number E = by-tests (outside 1 255 number || is-lit (lit-with number
     by-tests true b f e = absurd (omega (arith, e))
     by-tests false true f e = leb-true 32 (afresh h .burning) f
     by-tests false false f e = let z = no-other-state E 52 (λ n l u other k. omega arith) e in absurd (omega (arith, z))
+
+-- ---- for a number from 1 to 255
+module _ (h : List Answered) (number : ℕ) (E : Enquiry) (least : 1 ≤ number) (most : number ≤ 255) where
+  within : outside 1 255 number ≡ false
+  within = inside 1 255 number least most
+
+  pub due-accepted : lit-with number h ≡ none → afresh h .burning < 32 → flux-of E .state ≡ 0 → due h (Light number E) ≡ 0
+  unfolding due
+  due-accepted out space e = rw (within, out, lt-leb 32 (afresh h .burning) space, e)
+
+  pub due-full : lit-with number h ≡ none → 32 ≤ afresh h .burning → due h (Light number E) ≡ 52
+  unfolding due
+  due-full out full = rw (within, out, le-leb 32 (afresh h .burning) full)
+
+  pub due-out : lit-with number h ≡ some E → due h (PutOut number) ≡ 0
+  unfolding due
+  due-out burns = rw (within, burns)
+
+-- With fewer than 32 burning, what is due depends on the call's own pool alone.
+pub due-alike :
+    (h k : List Answered) (c : Call) → lit-with (about c) h ≡ lit-with (about c) k → afresh h .burning < 32 → afresh k .burning < 32 → due h c ≡ due k c
+unfolding due
+due-alike h k (Light number E) same few fewer =
+    rw (lt-leb 32 (afresh h .burning) few, lt-leb 32 (afresh k .burning) fewer)
+    (ap (λ (p : Option Enquiry). refuse (outside 1 255 number || is-lit p) 51 (flux-of E .state)) same)
+due-alike h k (PutOut number) same few fewer = ap (λ (p : Option Enquiry). refuse (outside 1 255 number || not (is-lit p)) 51 0) same

@@ -2,7 +2,6 @@
 -- 32, of which each is accepted; then 33 is refused by 52, and accepted after a pool is put out. By what each call is due. The standard's enquiry
 -- is one (ISO 24678-7, A.8). Assumes nothing.
 use mathlib.Core.Path.{_≡_, refl, sym, ap, _∙_}
-use mathlib.Core.Bool.{false}
 use mathlib.Core.Option.{none, some}
 use mathlib.Core.List.{List, [], _∷_}
 use Prim.Native.Nat.{ℕ, zero, suc, _≤_, _<_}
@@ -10,37 +9,16 @@ use native.Mathlib.Omega.{arith}
 use native.Mathlib.Decide.{ℕ-discrete}
 use lib.Dec.{lit≤, lit<}
 use lib.IntN.{pos}
-use borrow.Author.Tests.{le-leb, lt-leb}
 use Rattle.chain.specs.declared.enquiry.Enquiry.{Enquiry}
-use Rattle.chain.specs.Flux.{outside, flux-of}
-use Rattle.chain.proofs.Limits.{inside}
+use Rattle.chain.specs.Flux.{flux-of}
 use Rattle.chain.proofs.Examples.{example, level-accepted}
 use Rattle.register.specs.declared.sums.Totals.{Totals}
-use Rattle.history.specs.History.{Call, Light, PutOut, called, after, Answered, history, lit-with, afresh, due}
+use Rattle.history.specs.History.{Call, Light, PutOut, called, after, Answered, history, lit-with, afresh}
 use Rattle.history.proofs.Afresh.{one-more, no-pools-sum}
 use Rattle.history.proofs.Follows.{after-accepted, after-other, nothing-lit}
+use Rattle.history.proofs.Due.{due-accepted, due-full}
 use Rattle.history.proofs.Claims.{claims}
-
-module _ (h : List Answered) (number : ℕ) (E : Enquiry) (least : 1 ≤ number) (most : number ≤ 255) where
-  within : outside 1 255 number ≡ false
-  within = inside 1 255 number least most
-
-  due-accepted : lit-with number h ≡ none → afresh h .burning < 32 → flux-of E .state ≡ 0 → due h (Light number E) ≡ 0
-  unfolding due
-  due-accepted out space e = rw (within, out, lt-leb 32 (afresh h .burning) space, e)
-
-  due-full : lit-with number h ≡ none → 32 ≤ afresh h .burning → due h (Light number E) ≡ 52
-  unfolding due
-  due-full out full = rw (within, out, le-leb 32 (afresh h .burning) full)
-
-  due-out : lit-with number h ≡ some E → due h (PutOut number) ≡ 0
-  unfolding due
-  due-out burns = rw (within, burns)
-
--- An accepted call in the history.
-next : (calls : List Call) (c : Call) → called (after calls) c .state ≡ 0 → history (c ∷ calls) ≡ record { call = c; state = 0 } ∷ history calls
-unfolding history
-next calls c e = ap (λ s. record { call = c; state = s } ∷ history calls) e
+use Rattle.history.proofs.Sets.{history-next, set-other, burning-goes-out}
 
 -- An enquiry lit under the numbers 1 to k.
 abbrev pub lights-of : Enquiry → ℕ → List Call
@@ -65,16 +43,16 @@ module _ (E : Enquiry) (accepted : flux-of E .state ≡ 0) where
         out = λ m l. nothing-lit m;
       }
 
-  lights-next : (k : ℕ) → k < 32 → Alight k → called (after (lights k)) (Light (suc k) E) .state ≡ 0
-  lights-next k l a =
-      claims .answered (lights k) (Light (suc k) E)
-      ∙ due-accepted (history (lights k)) (suc k) E (omega arith) (omega arith) (a .out (suc k) (omega arith)) (omega (arith, a .burning, l)) accepted
+  lights-another : (k m : ℕ) → k < 32 → k < m → m ≤ 255 → Alight k → called (after (lights k)) (Light m E) .state ≡ 0
+  lights-another k m space new most a =
+      claims .answered (lights k) (Light m E)
+      ∙ due-accepted (history (lights k)) m E (omega arith) most (a .out m new) (omega (arith, a .burning, space)) accepted
 
   alight-next : (k : ℕ) → k < 32 → Alight k → Alight (suc k)
   alight-next k l a =
       let c = Light (suc k) E in
       let h = history (lights k) in
-      let now = next (lights k) c (lights-next k l a) in
+      let now = history-next (lights k) c 0 (lights-another k (suc k) l (omega arith) (omega arith) a) in
       let more =
       one-more (λ E. 1) (λ n. lit-with n h) (λ n. lit-with n (record { call = c; state = 0 } ∷ h)) (suc k) E (a .out (suc k) (omega arith))
       (after-accepted c h (suc k) refl) (λ j other. sym (after-other c h j other)) 255 (omega arith) (omega arith)
@@ -93,6 +71,12 @@ module _ (E : Enquiry) (accepted : flux-of E .state ≡ 0) where
   alight zero l = alight-none
   alight (suc k) l = alight-next k (omega arith) (alight k (omega arith))
 
+  pub another-lit : (k m : ℕ) → k < 32 → k < m → m ≤ 255 → called (after (lights k)) (Light m E) .state ≡ 0
+  another-lit k m space new most = lights-another k m space new most (alight k (omega arith))
+
+  pub one-put-out : (k m : ℕ) → k ≤ 32 → 1 ≤ m → m ≤ k → called (after (lights k)) (PutOut m) .state ≡ 0
+  one-put-out k m l least most = burning-goes-out (lights k) m E (alight k l .lit m least most)
+
   -- With 32 alight another is refused by 52.
   pub full : called (after (lights 32)) (Light 33 E) .state ≡ 52
   full =
@@ -100,10 +84,8 @@ module _ (E : Enquiry) (accepted : flux-of E .state ≡ 0) where
       claims .answered (lights 32) (Light 33 E)
       ∙ due-full (history (lights 32)) 33 E (lit≤ tt) (lit≤ tt) (a .out 33 (lit< tt)) (omega (arith, a .burning))
 
-  pub put-out : called (after (lights 32)) (PutOut 1) .state ≡ 0
-  put-out =
-      claims .answered (lights 32) (PutOut 1)
-      ∙ due-out (history (lights 32)) 1 E (lit≤ tt) (lit≤ tt) (alight 32 (lit≤ tt) .lit 1 (lit≤ tt) (lit≤ tt))
+  put-out : called (after (lights 32)) (PutOut 1) .state ≡ 0
+  put-out = one-put-out 32 1 (lit≤ tt) (lit≤ tt) (lit≤ tt)
 
   -- "A pool put out makes space for another."
   pub space : called (after (PutOut 1 ∷ lights 32)) (Light 33 E) .state ≡ 0
@@ -112,7 +94,7 @@ module _ (E : Enquiry) (accepted : flux-of E .state ≡ 0) where
       let fewer = claims .one-fewer (lights 32) 1 put-out in
       let most = claims .at-most (lights 32) in
       let afresh-is = ap (λ (t : Totals). t .burning) (claims .sums (PutOut 1 ∷ lights 32)) in
-      let out = ap (lit-with 33) (next (lights 32) (PutOut 1) put-out) ∙ after-other (PutOut 1) (history (lights 32)) 33 (λ e. omega (arith, e)) ∙ alight 32 (lit≤ tt) .out 33 (lit< tt) in
+      let out = set-other (lights 32) (PutOut 1) 33 (λ e. omega (arith, e)) ∙ alight 32 (lit≤ tt) .out 33 (lit< tt) in
       claims .answered (PutOut 1 ∷ lights 32) (Light 33 E)
       ∙ due-accepted h 33 E (lit≤ tt) (lit≤ tt) out (omega (arith, fewer, most, afresh-is)) accepted
 

@@ -31,7 +31,7 @@ pub record Follows (R : Register) (h : List Answered) : Type 0 where
 
 -- ---- what a call adds to the history
 module _ (c : Call) (h : List Answered) (n : ℕ) where
-  after-refused : (s : ℕ) → 0 < s → lit-with n (record { call = c; state = s } ∷ h) ≡ lit-with n h
+  pub after-refused : (s : ℕ) → 0 < s → lit-with n (record { call = c; state = s } ∷ h) ≡ lit-with n h
   unfolding lit-with
   after-refused s p =
       ap (λ (t : Bool). elim (t && eqb (about c) n) [ true ↦ leaves c | false ↦ lit-with n h ]) (ne-eqb s 0 (λ e. omega arith))

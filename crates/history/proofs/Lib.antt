@@ -4,5 +4,8 @@ pub mod Follows
 pub mod AtPlace
 pub mod Due
 pub mod Claims
+pub mod Sets
+pub mod Order
 pub mod Returned
 pub mod Examples
+pub mod Crossings

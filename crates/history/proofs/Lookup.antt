@@ -42,9 +42,11 @@ has-lookup n =
     (λ p ps e rest. has-later n p ps e ∙ rest ∙ ap is-lit (sym (lookup-later n p ps e)))
 
 pub no-lookup : (n : ℕ) (ps : List BurningPool) → has n ps ≡ false → lookup n ps ≡ none
-no-lookup n =
-    by-number n (λ ps. has n ps ≡ false → lookup n ps ≡ none) (λ h. lookup-none n) (λ p ps e rest h. absurd (true≢false (sym (has-here n p ps e) ∙ h)))
-    (λ p ps e rest h. lookup-later n p ps e ∙ rest (sym (has-later n p ps e) ∙ h))
+no-lookup n ps h = by-pool (lookup n ps) (sym (has-lookup n ps) ∙ h)
+  where
+    by-pool : (p : Option Enquiry) → is-lit p ≡ false → p ≡ none
+    by-pool none e = refl
+    by-pool (some E) e = absurd (true≢false e)
 
 -- ---- another pool in the first place of a number
 module _ (n : ℕ) (pool : BurningPool) where

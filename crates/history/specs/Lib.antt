@@ -1,3 +1,5 @@
 -- Request 10 of document 02: a list of calls on the register and what each was answered, and what is claimed of the register after it.
+-- Request 11: what is claimed of two calls in either order.
 pub mod History
 pub mod Claims
+pub mod Order

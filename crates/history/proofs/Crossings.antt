@@ -1,0 +1,104 @@
+-- Calls that cross, so that the claims of their order are not of nothing: an accepted enquiry burns under the numbers 1 to 30, and two are lit, one
+-- is lit and one put out, two are put out, all accepted. With 31 burning two that are accepted alone are not both accepted in a row. And that
+-- two orders fill other places. The standard's enquiry is one (ISO 24678-7, A.8). Assumes nothing.
+use mathlib.Core.Path.{_≡_, refl, sym, ap, _∙_}
+use mathlib.Core.List.{List, [], _∷_}
+use Prim.Native.Nat.{ℕ, _≤_, _<_}
+use native.Mathlib.Omega.{arith}
+use lib.Dec.{lit≤, lit<}
+use lib.IntN.{pos}
+use lib.ListN.{getD, replicate}
+use Rattle.chain.specs.declared.enquiry.Enquiry.{Enquiry}
+use Rattle.chain.specs.Flux.{flux-of}
+use Rattle.chain.proofs.Examples.{example, level-accepted}
+use Rattle.register.specs.declared.places.BurningPool.{BurningPool}
+use Rattle.register.specs.Places.{vacant}
+use Rattle.register.specs.Calls.{replaced, lit}
+use Rattle.register.proofs.ByNumber.{replaced-here, replaced-later}
+use Rattle.register.proofs.Outcomes.{by-light}
+use Rattle.history.specs.History.{Call, Light, PutOut, called, after, about}
+use Rattle.history.specs.Claims.{place-at}
+use Rattle.history.specs.Order.{Crossing}
+use Rattle.history.proofs.Sets.{burning-afresh}
+use Rattle.history.proofs.Order.{order-claims}
+use Rattle.history.proofs.Examples.{lights-of, alight, another-lit, one-put-out, full}
+
+-- Two calls that cross, both accepted in either order.
+pub record BothAccepted (before : List Call) (one other : Call) : Type 0 where
+  pub crossing : Crossing before one other
+  pub one-first : called (after before) one .state ≡ 0
+  pub other-second : called (after (one ∷ before)) other .state ≡ 0
+  pub other-first : called (after before) other .state ≡ 0
+  pub one-second : called (after (other ∷ before)) one .state ≡ 0
+
+module _ (E : Enquiry) (accepted : flux-of E .state ≡ 0) where
+  abbrev lights : ℕ → List Call
+  lights k = lights-of E k
+
+  both :
+      (k : ℕ) → k ≤ 30 → (one other : Call) → (about one ≡ about other → ⊥) → called (after (lights k)) one .state ≡ 0
+      → called (after (lights k)) other .state ≡ 0 → BothAccepted (lights k) one other
+  both k few one other different f s =
+      let x : Crossing (lights k) one other =
+      record { different = different; at-most = omega (arith, burning-afresh (lights k), alight E accepted k (omega arith) .burning, few) }
+      in
+      record {
+        crossing = x;
+        one-first = f;
+        other-second = order-claims .answered-alike (lights k) other one (record { different = λ e. different (sym e); at-most = x .at-most }) ∙ s;
+        other-first = s;
+        one-second = order-claims .answered-alike (lights k) one other x ∙ f;
+      }
+
+  two-lights : (k m n : ℕ) → k ≤ 30 → k < m → k < n → (m ≡ n → ⊥) → m ≤ 255 → n ≤ 255 → BothAccepted (lights k) (Light m E) (Light n E)
+  two-lights k m n few new new-too different most most-too =
+      both k few (Light m E) (Light n E) different (another-lit E accepted k m (omega arith) new most) (another-lit E accepted k n (omega arith) new-too most-too)
+
+  pub two-lit : BothAccepted (lights 30) (Light 31 E) (Light 32 E)
+  two-lit = two-lights 30 31 32 (lit≤ tt) (lit< tt) (lit< tt) (λ e. omega (arith, e)) (lit≤ tt) (lit≤ tt)
+
+  pub one-lit-one-out : BothAccepted (lights 30) (Light 31 E) (PutOut 1)
+  one-lit-one-out =
+      both 30 (lit≤ tt) (Light 31 E) (PutOut 1) (λ e. omega (arith, e)) (another-lit E accepted 30 31 (lit< tt) (lit< tt) (lit≤ tt))
+      (one-put-out E accepted 30 1 (lit≤ tt) (lit≤ tt) (lit≤ tt))
+
+  pub two-out : BothAccepted (lights 30) (PutOut 1) (PutOut 2)
+  two-out =
+      both 30 (lit≤ tt) (PutOut 1) (PutOut 2) (λ e. omega (arith, e)) (one-put-out E accepted 30 1 (lit≤ tt) (lit≤ tt) (lit≤ tt))
+      (one-put-out E accepted 30 2 (lit≤ tt) (lit≤ tt) (lit≤ tt))
+
+  -- With 31 burning: each alone, and the two in a row.
+  pub alone : (m : ℕ) → 31 < m → m ≤ 255 → called (after (lights 31)) (Light m E) .state ≡ 0
+  alone m = another-lit E accepted 31 m (lit< tt)
+
+  pub not-both : called (after (Light 32 E ∷ lights 31)) (Light 33 E) .state ≡ 52
+  not-both = full E accepted
+
+  -- Of two that are lit, the first stands in the first place.
+  lit-places : (calls : List Call) (n : ℕ) → called (after calls) (Light n E) .state ≡ 0 → after (Light n E ∷ calls) .places ≡ replaced 0 (lit n E) (after calls .places)
+  unfolding after
+  lit-places calls n =
+      by-light (after calls) (λ s. s .state ≡ 0 → s .register .places ≡ replaced 0 (lit n E) (after calls .places)) (λ s p e. absurd (omega (arith, p, e))) n E
+      (λ o h f z e. refl)
+
+  first-place : (m n : ℕ) → 1 ≤ m → BothAccepted [] (Light m E) (Light n E) → place-at (after (Light n E ∷ Light m E ∷ [])) 0 .number ≡ m
+  unfolding after
+  first-place m n least b =
+      let first : after (Light m E ∷ []) .places ≡ lit m E ∷ replicate 31 vacant =
+      lit-places [] m (b .one-first) ∙ replaced-here 0 vacant (replicate 31 vacant) refl (lit m E)
+      in
+      let second : after (Light n E ∷ Light m E ∷ []) .places ≡ lit m E ∷ replaced 0 (lit n E) (replicate 31 vacant) =
+      lit-places (Light m E ∷ []) n (b .other-second) ∙ ap (replaced 0 (lit n E)) first
+      ∙ replaced-later 0 (lit m E) (replicate 31 vacant) (λ e. omega (arith, e, least)) (lit n E)
+      in
+      ap (λ (ps : List BurningPool). getD ps 0 vacant .number) second
+
+  pub other-places : (after (Light 2 E ∷ Light 1 E ∷ []) ≡ after (Light 1 E ∷ Light 2 E ∷ [])) → ⊥
+  other-places e =
+      let one = first-place 1 2 (lit≤ tt) (two-lights 0 1 2 (lit≤ tt) (lit< tt) (lit< tt) (λ k. omega (arith, k)) (lit≤ tt) (lit≤ tt)) in
+      let two = first-place 2 1 (lit≤ tt) (two-lights 0 2 1 (lit≤ tt) (lit< tt) (lit< tt) (λ k. omega (arith, k)) (lit≤ tt) (lit≤ tt)) in
+      omega (arith, one, two, ap (λ R. place-at R 0 .number) e)
+
+-- The standard's enquiry, so there are such calls.
+pub standard-two-lit : BothAccepted (lights-of (example 1 1 (pos 0) 1_000) 30) (Light 31 (example 1 1 (pos 0) 1_000)) (Light 32 (example 1 1 (pos 0) 1_000))
+standard-two-lit = two-lit (example 1 1 (pos 0) 1_000) (level-accepted 1 1 1_000 refl refl refl)
