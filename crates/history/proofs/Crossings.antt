@@ -1,7 +1,8 @@
 -- Calls that cross, so that the claims of their order are not of nothing: an accepted enquiry burns under the numbers 1 to 30, and two are lit, one
--- is lit and one put out, two are put out, all accepted. With 31 burning two that are accepted alone are not both accepted in a row. And that
--- two orders fill other places. The standard's enquiry is one (ISO 24678-7, A.8). Assumes nothing.
+-- is lit and one put out, two are put out, all accepted. With 31 burning two that are accepted alone are not both accepted in a row. A
+-- pool that was burning is not restored. Two orders fill other places. The standard's enquiry is one (ISO 24678-7, A.8). Assumes nothing.
 use mathlib.Core.Path.{_≡_, refl, sym, ap, _∙_}
+use mathlib.Core.Option.{none, some}
 use mathlib.Core.List.{List, [], _∷_}
 use Prim.Native.Nat.{ℕ, _≤_, _<_}
 use native.Mathlib.Omega.{arith}
@@ -18,8 +19,8 @@ use Rattle.register.proofs.ByNumber.{replaced-here, replaced-later}
 use Rattle.register.proofs.Outcomes.{by-light}
 use Rattle.history.specs.History.{Call, Light, PutOut, called, after, about}
 use Rattle.history.specs.Claims.{place-at}
-use Rattle.history.specs.Order.{Crossing}
-use Rattle.history.proofs.Sets.{burning-afresh}
+use Rattle.history.specs.Order.{set-after, Crossing}
+use Rattle.history.proofs.Sets.{burning-afresh, out-then}
 use Rattle.history.proofs.Order.{order-claims}
 use Rattle.history.proofs.Examples.{lights-of, alight, another-lit, one-put-out, full}
 
@@ -74,7 +75,17 @@ module _ (E : Enquiry) (accepted : flux-of E .state ≡ 0) where
   pub not-both : called (after (Light 32 E ∷ lights 31)) (Light 33 E) .state ≡ 52
   not-both = full E accepted
 
-  -- Of two that are lit, the first stands in the first place.
+  -- A pool that is put out again was out before; one that was burning is not restored.
+  pub out-before : set-after (lights 30) 31 ≡ none
+  out-before = alight E accepted 30 (lit≤ tt) .out 31 (lit< tt)
+
+  pub burning-before : set-after (lights 30) 1 ≡ some E
+  burning-before = alight E accepted 30 (lit≤ tt) .lit 1 (lit≤ tt) (lit≤ tt)
+
+  pub not-restored : set-after (PutOut 1 ∷ Light 1 E ∷ lights 30) 1 ≡ none
+  not-restored = out-then (Light 1 E ∷ lights 30) 1
+
+  -- A pool that is lit stands in the first vacant place; so of two the first stands in the first.
   lit-places : (calls : List Call) (n : ℕ) → called (after calls) (Light n E) .state ≡ 0 → after (Light n E ∷ calls) .places ≡ replaced 0 (lit n E) (after calls .places)
   unfolding after
   lit-places calls n =

@@ -13,7 +13,7 @@ use Rattle.history.specs.Claims.{Burns}
 use Rattle.history.specs.Order.{set-after, SameSetAndSums, SamePools, OrderClaims}
 use Rattle.history.proofs.Due.{due-alike}
 use Rattle.history.proofs.Claims.{claims}
-use Rattle.history.proofs.Sets.{set-accepted, set-refused, set-other, set-alike, by-set, burning-afresh, one-more-burns, burning-goes-out, out-then}
+use Rattle.history.proofs.Sets.{set-accepted, set-refused, set-other, set-alike, by-set, burning-afresh, at-most-one-more-burns, burning-goes-out, out-then}
 
 -- ---- two calls, with space for both
 module _ (before : List Call) (space : sums-of (after before) .burning < 31) where
@@ -21,7 +21,7 @@ module _ (before : List Call) (space : sums-of (after before) .burning < 31) whe
   alike one other different =
       claims .answered (other ∷ before) one
       ∙ due-alike (history (other ∷ before)) (history before) one (set-other before other (about one) different)
-      (omega (arith, space, one-more-burns before other, burning-afresh (other ∷ before))) (omega (arith, space, burning-afresh before))
+      (omega (arith, space, at-most-one-more-burns before other, burning-afresh (other ∷ before))) (omega (arith, space, burning-afresh before))
       ∙ sym (claims .answered before one)
 
   -- At a number that the first call is not about.

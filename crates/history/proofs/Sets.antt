@@ -43,16 +43,19 @@ pub set-alike :
     (these those : List Call) (c : Call) (n : ℕ) → called (after these) c .state ≡ called (after those) c .state → set-after these n ≡ set-after those n
     → set-after (c ∷ these) n ≡ set-after (c ∷ those) n
 unfolding history lit-with
-set-alike these those c n answers pools =
-    ap (λ (s : ℕ). elim (eqb s 0 && eqb (about c) n) [ true ↦ leaves c | false ↦ set-after these n ]) answers
+set-alike these those c n states pools =
+    ap (λ (s : ℕ). elim (eqb s 0 && eqb (about c) n) [ true ↦ leaves c | false ↦ set-after these n ]) states
     ∙ ap (λ (p : Option Enquiry). elim (eqb (called (after those) c .state) 0 && eqb (about c) n) [ true ↦ leaves c | false ↦ p ]) pools
 
 -- ---- the sums are those of the set
 pub by-set : (these those : List Call) → ((n : ℕ) → set-after these n ≡ set-after those n) → SameSetAndSums these those
-by-set these those same = record { set = same; sums = claims .sums these ∙ cc (summed (λ E. 1), summed (λ E. flux-of E .low), summed (λ E. flux-of E .high)) ∙ sym (claims .sums those) }
+by-set these those same = record { set = same; sums = claims .sums these ∙ worked-afresh ∙ sym (claims .sums those) }
   where
     summed : (figure : Enquiry → ℕ) → over-numbers figure (set-after these) 255 ≡ over-numbers figure (set-after those) 255
     summed figure = same-sum figure (set-after these) (set-after those) 255 (λ m l h. same m)
+
+    worked-afresh : afresh (history these) ≡ afresh (history those)
+    worked-afresh = cc (summed (λ E. 1), summed (λ E. flux-of E .low), summed (λ E. flux-of E .high))
 
 -- ---- how many burn
 abbrev burning-after : List Call → ℕ
@@ -61,8 +64,8 @@ burning-after calls = sums-of (after calls) .burning
 pub burning-afresh : (calls : List Call) → burning-after calls ≡ afresh (history calls) .burning
 burning-afresh calls = ap (λ (t : Totals). t .burning) (claims .sums calls)
 
-pub one-more-burns : (calls : List Call) (c : Call) → burning-after (c ∷ calls) ≤ suc (burning-after calls)
-one-more-burns calls c =
+pub at-most-one-more-burns : (calls : List Call) (c : Call) → burning-after (c ∷ calls) ≤ suc (burning-after calls)
+at-most-one-more-burns calls c =
     let more = at-most-one-more (set-after calls) (set-after (c ∷ calls)) (about c) (λ n. set-other calls c n) 255 in
     omega (arith, burning-afresh calls, burning-afresh (c ∷ calls), more)
 

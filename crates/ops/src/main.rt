@@ -187,7 +187,7 @@ fn answer_lines(text: &[u8]) {
 }
 
 fn main() {
-    let mut text = [0u8; 262_144];
+    let mut text = [0u8; 524_288];
     let n = io::read_full(STDIN_FILENO, &mut text);
     answer_lines(&text[..n]);
 }
