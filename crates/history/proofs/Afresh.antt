@@ -1,5 +1,5 @@
--- Sums over the numbers 1 to n, and that those over sound places are such sums: each pool counts once, by its number. By induction over the
--- numbers, and over the places. Assumes nothing.
+-- Sums over the numbers 1 to n, and that those over sound places are such sums: each pool counts once, by its number. One number makes at
+-- most one more burn. By induction over the numbers, and over the places. Assumes nothing.
 use mathlib.Core.Path.{_≡_, refl, sym, ap, _∙_}
 use mathlib.Core.Option.{Option, none, some}
 use mathlib.Core.List.{List, [], _∷_}

@@ -1,7 +1,7 @@
 -- Lists of calls that fill the register, so that the claims are not of the empty one alone: an accepted enquiry lit under the numbers 1 to
 -- 32, of which each is accepted; then 33 is refused by 52, and accepted after a pool is put out. By what each call is due. The standard's enquiry
 -- is one (ISO 24678-7, A.8). Assumes nothing.
-use mathlib.Core.Path.{_≡_, refl, sym, ap, _∙_}
+use mathlib.Core.Path.{_≡_, refl, sym, _∙_}
 use mathlib.Core.Option.{none, some}
 use mathlib.Core.List.{List, [], _∷_}
 use Prim.Native.Nat.{ℕ, zero, suc, _≤_, _<_}
@@ -12,13 +12,13 @@ use lib.IntN.{pos}
 use Rattle.chain.specs.declared.enquiry.Enquiry.{Enquiry}
 use Rattle.chain.specs.Flux.{flux-of}
 use Rattle.chain.proofs.Examples.{example, level-accepted}
-use Rattle.register.specs.declared.sums.Totals.{Totals}
-use Rattle.history.specs.History.{Call, Light, PutOut, called, after, Answered, history, lit-with, afresh}
+use Rattle.history.specs.History.{Call, Light, PutOut, called, after, history, lit-with, afresh}
+use Rattle.history.specs.OrderClaims.{set-after}
 use Rattle.history.proofs.Afresh.{one-more, no-pools-sum}
-use Rattle.history.proofs.Follows.{after-accepted, after-other, nothing-lit}
+use Rattle.history.proofs.Follows.{nothing-lit}
 use Rattle.history.proofs.Due.{due-accepted, due-full}
 use Rattle.history.proofs.Claims.{claims}
-use Rattle.history.proofs.Sets.{history-next, set-other, burning-goes-out}
+use Rattle.history.proofs.Sets.{set-accepted, set-other, burning-afresh, burning-goes-out}
 
 -- An enquiry lit under the numbers 1 to k.
 abbrev pub lights-of : Enquiry → ℕ → List Call
@@ -31,8 +31,8 @@ module _ (E : Enquiry) (accepted : flux-of E .state ≡ 0) where
 
   pub record Alight (k : ℕ) : Type 0 where
     pub burning : afresh (history (lights k)) .burning ≡ k
-    pub lit : (m : ℕ) → 1 ≤ m → m ≤ k → lit-with m (history (lights k)) ≡ some E
-    pub out : (m : ℕ) → k < m → lit-with m (history (lights k)) ≡ none
+    pub lit : (m : ℕ) → 1 ≤ m → m ≤ k → set-after (lights k) m ≡ some E
+    pub out : (m : ℕ) → k < m → set-after (lights k) m ≡ none
 
   alight-none : Alight 0
   unfolding history
@@ -51,20 +51,19 @@ module _ (E : Enquiry) (accepted : flux-of E .state ≡ 0) where
   alight-next : (k : ℕ) → k < 32 → Alight k → Alight (suc k)
   alight-next k l a =
       let c = Light (suc k) E in
-      let h = history (lights k) in
-      let now = history-next (lights k) c 0 (lights-another k (suc k) l (omega arith) (omega arith) a) in
+      let accepted = lights-another k (suc k) l (omega arith) (omega arith) a in
       let more =
-      one-more (λ E. 1) (λ n. lit-with n h) (λ n. lit-with n (record { call = c; state = 0 } ∷ h)) (suc k) E (a .out (suc k) (omega arith))
-      (after-accepted c h (suc k) refl) (λ j other. sym (after-other c h j other)) 255 (omega arith) (omega arith)
+      one-more (λ E. 1) (set-after (lights k)) (set-after (lights (suc k))) (suc k) E (a .out (suc k) (omega arith))
+      (set-accepted (lights k) c (suc k) accepted refl) (λ j different. sym (set-other (lights k) c j different)) 255 (omega arith) (omega arith)
       in
       record {
-        burning = omega (arith, ap (λ (g : List Answered). afresh g .burning) now, more, a .burning);
+        burning = omega (arith, more, a .burning);
         lit =
-            λ m least most. ap (lit-with m) now ∙ elim (ℕ-discrete (suc k) m) [
-              | yes e ↦ after-accepted c h m e
-              | no e ↦ after-other c h m e ∙ a .lit m least (omega (arith, e, most))
+            λ m least most. elim (ℕ-discrete (suc k) m) [
+              | yes e ↦ set-accepted (lights k) c m accepted e
+              | no e ↦ set-other (lights k) c m e ∙ a .lit m least (omega (arith, e, most))
             ];
-        out = λ m k. ap (lit-with m) now ∙ after-other c h m (λ e. omega (arith, e, k)) ∙ a .out m (omega arith);
+        out = λ m l. set-other (lights k) c m (λ e. omega (arith, e, l)) ∙ a .out m (omega arith);
       }
 
   pub alight : (k : ℕ) → k ≤ 32 → Alight k
@@ -93,10 +92,9 @@ module _ (E : Enquiry) (accepted : flux-of E .state ≡ 0) where
       let h = history (PutOut 1 ∷ lights 32) in
       let fewer = claims .one-fewer (lights 32) 1 put-out in
       let most = claims .at-most (lights 32) in
-      let afresh-is = ap (λ (t : Totals). t .burning) (claims .sums (PutOut 1 ∷ lights 32)) in
       let out = set-other (lights 32) (PutOut 1) 33 (λ e. omega (arith, e)) ∙ alight 32 (lit≤ tt) .out 33 (lit< tt) in
       claims .answered (PutOut 1 ∷ lights 32) (Light 33 E)
-      ∙ due-accepted h 33 E (lit≤ tt) (lit≤ tt) out (omega (arith, fewer, most, afresh-is)) accepted
+      ∙ due-accepted h 33 E (lit≤ tt) (lit≤ tt) out (omega (arith, fewer, most, burning-afresh (PutOut 1 ∷ lights 32))) accepted
 
 -- The standard's enquiry, so there are such lists.
 pub standard-full : called (after (lights-of (example 1 1 (pos 0) 1_000) 32)) (Light 33 (example 1 1 (pos 0) 1_000)) .state ≡ 52

@@ -5,7 +5,7 @@ pub mod AtPlace
 pub mod Due
 pub mod Claims
 pub mod Sets
-pub mod Order
+pub mod OrderClaims
 pub mod Returned
 pub mod Examples
-pub mod Crossings
+pub mod OrderExamples

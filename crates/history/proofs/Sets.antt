@@ -1,5 +1,5 @@
 -- The set after a call: what it leaves at its own number where it is accepted, and every other number as it was. The sums are those of the set,
--- and a call makes at most one more burn. From the claims of the register. Assumes nothing.
+-- a call makes at most one more burn, and a pool that burns can be put out. From the claims of the register. Assumes nothing.
 use mathlib.Core.Path.{_≡_, refl, sym, ap, _∙_}
 use mathlib.Core.Bool.{true, false, _&&_}
 use mathlib.Core.Option.{Option, none, some}
@@ -12,14 +12,14 @@ use Rattle.chain.specs.Flux.{flux-of}
 use Rattle.register.specs.declared.sums.Totals.{Totals}
 use Rattle.register.specs.Sums.{sums-of}
 use Rattle.history.specs.History.{Call, PutOut, called, after, history, about, leaves, lit-with, over-numbers, afresh}
-use Rattle.history.specs.Order.{set-after, SameSetAndSums}
+use Rattle.history.specs.OrderClaims.{set-after, SameSetAndSums}
 use Rattle.history.proofs.Afresh.{same-sum, at-most-one-more}
 use Rattle.history.proofs.Follows.{after-refused, after-accepted, after-other}
 use Rattle.history.proofs.Due.{due-out}
 use Rattle.history.proofs.Claims.{claims}
 
 -- A call in the history, with the state it was answered.
-pub history-next : (calls : List Call) (c : Call) (s : ℕ) → called (after calls) c .state ≡ s → history (c ∷ calls) ≡ record { call = c; state = s } ∷ history calls
+history-next : (calls : List Call) (c : Call) (s : ℕ) → called (after calls) c .state ≡ s → history (c ∷ calls) ≡ record { call = c; state = s } ∷ history calls
 unfolding history
 history-next calls c s e = ap (λ t. record { call = c; state = t } ∷ history calls) e
 
@@ -32,10 +32,10 @@ module _ (calls : List Call) (c : Call) (n : ℕ) where
 
   -- Of another number, whatever the call is answered.
   pub set-other : (about c ≡ n → ⊥) → set-after (c ∷ calls) n ≡ set-after calls n
-  set-other other = by-state (called (after calls) c .state) refl
+  set-other different = by-state (called (after calls) c .state) refl
     where
       by-state : (s : ℕ) → called (after calls) c .state ≡ s → set-after (c ∷ calls) n ≡ set-after calls n
-      by-state zero e = ap (lit-with n) (history-next calls c 0 e) ∙ after-other c (history calls) n other
+      by-state zero e = ap (lit-with n) (history-next calls c 0 e) ∙ after-other c (history calls) n different
       by-state (suc s) e = set-refused (suc s) (omega arith) e
 
 -- The same call, answered the same, on the same pool.
@@ -48,8 +48,8 @@ set-alike these those c n states pools =
     ∙ ap (λ (p : Option Enquiry). elim (eqb (called (after those) c .state) 0 && eqb (about c) n) [ true ↦ leaves c | false ↦ p ]) pools
 
 -- ---- the sums are those of the set
-pub by-set : (these those : List Call) → ((n : ℕ) → set-after these n ≡ set-after those n) → SameSetAndSums these those
-by-set these those same = record { set = same; sums = claims .sums these ∙ worked-afresh ∙ sym (claims .sums those) }
+pub same-by-set : (these those : List Call) → ((n : ℕ) → set-after these n ≡ set-after those n) → SameSetAndSums these those
+same-by-set these those same = record { set = same; sums = claims .sums these ∙ worked-afresh ∙ sym (claims .sums those) }
   where
     summed : (figure : Enquiry → ℕ) → over-numbers figure (set-after these) 255 ≡ over-numbers figure (set-after those) 255
     summed figure = same-sum figure (set-after these) (set-after those) 255 (λ m l h. same m)
@@ -78,8 +78,8 @@ module _ (calls : List Call) (number : ℕ) where
       claims .answered calls (PutOut number) ∙ due-out (history calls) number E (b .least) (omega (arith, at .most, b .number-there)) e
 
   -- It is out then, also where the call is refused.
-  pub out-then : set-after (PutOut number ∷ calls) number ≡ none
-  out-then = by-pool (set-after calls number) refl
+  pub out-after-put-out : set-after (PutOut number ∷ calls) number ≡ none
+  out-after-put-out = by-pool (set-after calls number) refl
     where
       by-state : set-after calls number ≡ none → (s : ℕ) → called (after calls) (PutOut number) .state ≡ s → set-after (PutOut number ∷ calls) number ≡ none
       by-state e zero z = set-accepted calls (PutOut number) number z refl

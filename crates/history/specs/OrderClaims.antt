@@ -11,7 +11,7 @@ use Rattle.history.specs.History.{Call, Light, PutOut, called, after, hi
 use Rattle.history.specs.Claims.{Burns}
 
 -- The "set" after a list of calls: each number with the enquiry it burns with, none where it is out. From the calls and what each was
--- answered, not from the register's places: two orders may fill other places and have the same set.
+-- answered, not from the register's places: two orders may fill different places and have the same set.
 abbrev pub set-after : List Call → ℕ → Option Enquiry
 set-after calls number = lit-with number (history calls)
 
@@ -20,8 +20,8 @@ pub record SameSetAndSums (these those : List Call) : Type 0 where
   pub set : (number : ℕ) → set-after these number ≡ set-after those number
   pub sums : sums-of (after these) ≡ sums-of (after those)
 
--- The same of two registers: the same pools burn, with the same enquiries, at whatever places.
-pub record SamePools (R S : Register) : Type 0 where
+-- The same of two registers: the same pools burn, with the same enquiries, at whatever places, and the sums are the same.
+pub record SamePoolsAndSums (R S : Register) : Type 0 where
   pub in-second : (number : ℕ) (E : Enquiry) → Burns R number E → Burns S number E
   pub in-first : (number : ℕ) (E : Enquiry) → Burns S number E → Burns R number E
   pub sums : sums-of R ≡ sums-of S
@@ -29,7 +29,7 @@ pub record SamePools (R S : Register) : Type 0 where
 -- Two calls "about different pool numbers .. provided at most 30 pools burn before them".
 pub record Crossing (before : List Call) (one other : Call) : Type 0 where
   pub different : about one ≡ about other → ⊥
-  pub at-most : sums-of (after before) .burning ≤ 30
+  pub burning-before : sums-of (after before) .burning ≤ 30
 
 -- All that is claimed.
 pub record OrderClaims : Type 0 where
@@ -44,11 +44,11 @@ pub record OrderClaims : Type 0 where
   pub restored :
       (before : List Call) (number : ℕ) (E : Enquiry) → set-after before number ≡ none
       → SameSetAndSums (PutOut number ∷ Light number E ∷ before) before
-  -- A pool that was lit can be put out.
+  -- Where the lighting is accepted, so is the putting out that follows it.
   pub can-be-put-out :
       (before : List Call) (number : ℕ) (E : Enquiry) → called (after before) (Light number E) .state ≡ 0
       → called (after (Light number E ∷ before)) (PutOut number) .state ≡ 0
   -- Where a call is refused, nothing has changed: `kept` of Claims says so of every place.
   pub unchanged : (before : List Call) (c : Call) → 1 ≤ called (after before) c .state → SameSetAndSums (c ∷ before) before
-  -- The set is that of the register.
-  pub of-registers : (these those : List Call) → SameSetAndSums these those → SamePools (after these) (after those)
+  -- The set is that of the register (`lit` and `only-lit` of Claims); so where set and sums are the same, the registers have the same pools.
+  pub of-registers : (these those : List Call) → SameSetAndSums these those → SamePoolsAndSums (after these) (after those)

@@ -1,6 +1,6 @@
 -- Calls that cross, so that the claims of their order are not of nothing: an accepted enquiry burns under the numbers 1 to 30, and two are lit, one
 -- is lit and one put out, two are put out, all accepted. With 31 burning two that are accepted alone are not both accepted in a row. A
--- pool that was burning is not restored. Two orders fill other places. The standard's enquiry is one (ISO 24678-7, A.8). Assumes nothing.
+-- pool that was burning is not restored. Two orders fill different places. The standard's enquiry is one (ISO 24678-7, A.8). Assumes nothing.
 use mathlib.Core.Path.{_≡_, refl, sym, ap, _∙_}
 use mathlib.Core.Option.{none, some}
 use mathlib.Core.List.{List, [], _∷_}
@@ -19,9 +19,9 @@ use Rattle.register.proofs.ByNumber.{replaced-here, replaced-later}
 use Rattle.register.proofs.Outcomes.{by-light}
 use Rattle.history.specs.History.{Call, Light, PutOut, called, after, about}
 use Rattle.history.specs.Claims.{place-at}
-use Rattle.history.specs.Order.{set-after, Crossing}
-use Rattle.history.proofs.Sets.{burning-afresh, out-then}
-use Rattle.history.proofs.Order.{order-claims}
+use Rattle.history.specs.OrderClaims.{set-after, Crossing}
+use Rattle.history.proofs.Sets.{burning-afresh, out-after-put-out}
+use Rattle.history.proofs.OrderClaims.{order-claims}
 use Rattle.history.proofs.Examples.{lights-of, alight, another-lit, one-put-out, full}
 
 -- Two calls that cross, both accepted in either order.
@@ -33,57 +33,54 @@ pub record BothAccepted (before : List Call) (one other : Call) : Type 0 where
   pub one-second : called (after (other ∷ before)) one .state ≡ 0
 
 module _ (E : Enquiry) (accepted : flux-of E .state ≡ 0) where
-  abbrev lights : ℕ → List Call
-  lights k = lights-of E k
-
-  both :
-      (k : ℕ) → k ≤ 30 → (one other : Call) → (about one ≡ about other → ⊥) → called (after (lights k)) one .state ≡ 0
-      → called (after (lights k)) other .state ≡ 0 → BothAccepted (lights k) one other
-  both k few one other different f s =
-      let x : Crossing (lights k) one other =
-      record { different = different; at-most = omega (arith, burning-afresh (lights k), alight E accepted k (omega arith) .burning, few) }
+  both-accepted :
+      (k : ℕ) → k ≤ 30 → (one other : Call) → (about one ≡ about other → ⊥) → called (after (lights-of E k)) one .state ≡ 0
+      → called (after (lights-of E k)) other .state ≡ 0 → BothAccepted (lights-of E k) one other
+  both-accepted k few one other different f s =
+      let x : Crossing (lights-of E k) one other =
+      record { different = different; burning-before = omega (arith, burning-afresh (lights-of E k), alight E accepted k (omega arith) .burning, few) }
       in
       record {
         crossing = x;
         one-first = f;
-        other-second = order-claims .answered-alike (lights k) other one (record { different = λ e. different (sym e); at-most = x .at-most }) ∙ s;
+        other-second = order-claims .answered-alike (lights-of E k) other one (record { different = λ e. different (sym e); burning-before = x .burning-before }) ∙ s;
         other-first = s;
-        one-second = order-claims .answered-alike (lights k) one other x ∙ f;
+        one-second = order-claims .answered-alike (lights-of E k) one other x ∙ f;
       }
 
-  two-lights : (k m n : ℕ) → k ≤ 30 → k < m → k < n → (m ≡ n → ⊥) → m ≤ 255 → n ≤ 255 → BothAccepted (lights k) (Light m E) (Light n E)
+  two-lights : (k m n : ℕ) → k ≤ 30 → k < m → k < n → (m ≡ n → ⊥) → m ≤ 255 → n ≤ 255 → BothAccepted (lights-of E k) (Light m E) (Light n E)
   two-lights k m n few new new-too different most most-too =
-      both k few (Light m E) (Light n E) different (another-lit E accepted k m (omega arith) new most) (another-lit E accepted k n (omega arith) new-too most-too)
+      both-accepted k few (Light m E) (Light n E) different (another-lit E accepted k m (omega arith) new most) (another-lit E accepted k n (omega arith) new-too most-too)
 
-  pub two-lit : BothAccepted (lights 30) (Light 31 E) (Light 32 E)
+  pub two-lit : BothAccepted (lights-of E 30) (Light 31 E) (Light 32 E)
   two-lit = two-lights 30 31 32 (lit≤ tt) (lit< tt) (lit< tt) (λ e. omega (arith, e)) (lit≤ tt) (lit≤ tt)
 
-  pub one-lit-one-out : BothAccepted (lights 30) (Light 31 E) (PutOut 1)
+  pub one-lit-one-out : BothAccepted (lights-of E 30) (Light 31 E) (PutOut 1)
   one-lit-one-out =
-      both 30 (lit≤ tt) (Light 31 E) (PutOut 1) (λ e. omega (arith, e)) (another-lit E accepted 30 31 (lit< tt) (lit< tt) (lit≤ tt))
+      both-accepted 30 (lit≤ tt) (Light 31 E) (PutOut 1) (λ e. omega (arith, e)) (another-lit E accepted 30 31 (lit< tt) (lit< tt) (lit≤ tt))
       (one-put-out E accepted 30 1 (lit≤ tt) (lit≤ tt) (lit≤ tt))
 
-  pub two-out : BothAccepted (lights 30) (PutOut 1) (PutOut 2)
+  pub two-out : BothAccepted (lights-of E 30) (PutOut 1) (PutOut 2)
   two-out =
-      both 30 (lit≤ tt) (PutOut 1) (PutOut 2) (λ e. omega (arith, e)) (one-put-out E accepted 30 1 (lit≤ tt) (lit≤ tt) (lit≤ tt))
+      both-accepted 30 (lit≤ tt) (PutOut 1) (PutOut 2) (λ e. omega (arith, e)) (one-put-out E accepted 30 1 (lit≤ tt) (lit≤ tt) (lit≤ tt))
       (one-put-out E accepted 30 2 (lit≤ tt) (lit≤ tt) (lit≤ tt))
 
   -- With 31 burning: each alone, and the two in a row.
-  pub alone : (m : ℕ) → 31 < m → m ≤ 255 → called (after (lights 31)) (Light m E) .state ≡ 0
-  alone m = another-lit E accepted 31 m (lit< tt)
+  pub each-lit-with-31 : (m : ℕ) → 31 < m → m ≤ 255 → called (after (lights-of E 31)) (Light m E) .state ≡ 0
+  each-lit-with-31 m = another-lit E accepted 31 m (lit< tt)
 
-  pub not-both : called (after (Light 32 E ∷ lights 31)) (Light 33 E) .state ≡ 52
-  not-both = full E accepted
+  pub second-refused-with-31 : called (after (Light 32 E ∷ lights-of E 31)) (Light 33 E) .state ≡ 52
+  second-refused-with-31 = full E accepted
 
-  -- A pool that is put out again was out before; one that was burning is not restored.
-  pub out-before : set-after (lights 30) 31 ≡ none
-  out-before = alight E accepted 30 (lit≤ tt) .out 31 (lit< tt)
+  -- Pool 31 is out before, as `restored` asks; pool 1 burns before, and is not restored.
+  pub pool-31-out : set-after (lights-of E 30) 31 ≡ none
+  pool-31-out = alight E accepted 30 (lit≤ tt) .out 31 (lit< tt)
 
-  pub burning-before : set-after (lights 30) 1 ≡ some E
-  burning-before = alight E accepted 30 (lit≤ tt) .lit 1 (lit≤ tt) (lit≤ tt)
+  pub pool-1-burning : set-after (lights-of E 30) 1 ≡ some E
+  pool-1-burning = alight E accepted 30 (lit≤ tt) .lit 1 (lit≤ tt) (lit≤ tt)
 
-  pub not-restored : set-after (PutOut 1 ∷ Light 1 E ∷ lights 30) 1 ≡ none
-  not-restored = out-then (Light 1 E ∷ lights 30) 1
+  pub pool-1-not-restored : set-after (PutOut 1 ∷ Light 1 E ∷ lights-of E 30) 1 ≡ none
+  pool-1-not-restored = out-after-put-out (Light 1 E ∷ lights-of E 30) 1
 
   -- A pool that is lit stands in the first vacant place; so of two the first stands in the first.
   lit-places : (calls : List Call) (n : ℕ) → called (after calls) (Light n E) .state ≡ 0 → after (Light n E ∷ calls) .places ≡ replaced 0 (lit n E) (after calls .places)
@@ -104,8 +101,8 @@ module _ (E : Enquiry) (accepted : flux-of E .state ≡ 0) where
       in
       ap (λ (ps : List BurningPool). getD ps 0 vacant .number) second
 
-  pub other-places : (after (Light 2 E ∷ Light 1 E ∷ []) ≡ after (Light 1 E ∷ Light 2 E ∷ [])) → ⊥
-  other-places e =
+  pub different-places : (after (Light 2 E ∷ Light 1 E ∷ []) ≡ after (Light 1 E ∷ Light 2 E ∷ [])) → ⊥
+  different-places e =
       let one = first-place 1 2 (lit≤ tt) (two-lights 0 1 2 (lit≤ tt) (lit< tt) (lit< tt) (λ k. omega (arith, k)) (lit≤ tt) (lit≤ tt)) in
       let two = first-place 2 1 (lit≤ tt) (two-lights 0 2 1 (lit≤ tt) (lit< tt) (lit< tt) (λ k. omega (arith, k)) (lit≤ tt) (lit≤ tt)) in
       omega (arith, one, two, ap (λ R. place-at R 0 .number) e)
