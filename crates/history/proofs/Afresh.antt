@@ -6,7 +6,7 @@ use mathlib.Core.List.{List, [], _∷_}
 use Prim.Native.Nat.{ℕ, zero, suc, _+_, _≤_}
 use native.Mathlib.Nat.{le-refl}
 use native.Mathlib.Omega.{arith}
-use native.Mathlib.Decide.{ℕ-discrete}
+use native.Mathlib.Decide.{ℕ-discrete, decLe}
 use Rattle.chain.specs.declared.enquiry.Enquiry.{Enquiry}
 use Rattle.register.specs.declared.places.BurningPool.{BurningPool}
 use Rattle.register.specs.Sums.{over-burning}
@@ -32,23 +32,30 @@ module _ (figure : Enquiry → ℕ) where
       let last = ap (figure-of figure) (same (suc n) (omega arith) (le-refl _)) in
       omega (arith, sum-next a n, sum-next b n, rest, last)
 
-  -- One pool more.
-  pub one-more :
-      (a b : ℕ → Option Enquiry) (m : ℕ) (E : Enquiry) → a m ≡ none → b m ≡ some E → ((k : ℕ) → (m ≡ k → ⊥) → a k ≡ b k)
-      → (n : ℕ) → 1 ≤ m → m ≤ n → over-numbers figure b n ≡ figure E + over-numbers figure a n
-  one-more a b m E was is other zero l h = absurd (omega arith)
-  one-more a b m E was is other (suc n) l h =
+  -- Where only the pool of one number may differ, the sums differ by its figures.
+  one-other :
+      (a b : ℕ → Option Enquiry) (m : ℕ) → ((k : ℕ) → (m ≡ k → ⊥) → a k ≡ b k)
+      → (n : ℕ) → 1 ≤ m → m ≤ n → over-numbers figure b n + figure-of figure (a m) ≡ over-numbers figure a n + figure-of figure (b m)
+  one-other a b m other zero l h = absurd (omega arith)
+  one-other a b m other (suc n) l h =
       elim (ℕ-discrete m (suc n)) [
         | yes k ↦
-            let before : figure-of figure (a (suc n)) ≡ 0 = ap (λ j. figure-of figure (a j)) (sym k) ∙ ap (figure-of figure) was in
-            let now : figure-of figure (b (suc n)) ≡ figure E = ap (λ j. figure-of figure (b j)) (sym k) ∙ ap (figure-of figure) is in
+            let before = ap (λ j. figure-of figure (a j)) k in
+            let now = ap (λ j. figure-of figure (b j)) k in
             let rest = same-sum a b n (λ j p q. other j (λ e. omega (arith, e, k, q))) in
             omega (arith, sum-next a n, sum-next b n, before, now, rest)
         | no k ↦
             let here = ap (figure-of figure) (other (suc n) k) in
-            let rest = one-more a b m E was is other n l (omega (arith, k)) in
+            let rest = one-other a b m other n l (omega (arith, k)) in
             omega (arith, sum-next a n, sum-next b n, here, rest)
       ]
+
+  -- One pool more.
+  pub one-more :
+      (a b : ℕ → Option Enquiry) (m : ℕ) (E : Enquiry) → a m ≡ none → b m ≡ some E → ((k : ℕ) → (m ≡ k → ⊥) → a k ≡ b k)
+      → (n : ℕ) → 1 ≤ m → m ≤ n → over-numbers figure b n ≡ figure E + over-numbers figure a n
+  one-more a b m E was is other n l h =
+      omega (arith, one-other a b m other n l h, ap (figure-of figure) was, ap (figure-of figure) is)
 
   pub no-pools-sum : (pools : ℕ → Option Enquiry) → ((m : ℕ) → pools m ≡ none) → (n : ℕ) → over-numbers figure pools n ≡ 0
   no-pools-sum pools out zero = sum-zero pools
@@ -71,21 +78,23 @@ module _ (figure : Enquiry → ℕ) where
         in
         omega (arith, sum-burning of-pool p ps e, rest (s .1), same p (b .lit), more))
 
--- At most one more burns where only one number may differ.
+-- A pool counts 1, or 0 where it is out.
 one-each : (o : Option Enquiry) → figure-of (λ E. 1) o ≤ 1
 one-each none = omega arith
 one-each (some E) = omega arith
 
+-- At most one more burns where only the pool of one number may differ.
 pub at-most-one-more :
-    (a b : ℕ → Option Enquiry) (m : ℕ) → ((k : ℕ) → (m ≡ k → ⊥) → b k ≡ a k)
+    (a b : ℕ → Option Enquiry) (m : ℕ) → ((k : ℕ) → (m ≡ k → ⊥) → a k ≡ b k)
     → (n : ℕ) → over-numbers (λ E. 1) b n ≤ suc (over-numbers (λ E. 1) a n)
-at-most-one-more a b m other zero = omega (arith, sum-zero (λ E. 1) b)
-at-most-one-more a b m other (suc n) =
-    elim (ℕ-discrete m (suc n)) [
-      | yes k ↦
-          let rest = same-sum (λ E. 1) b a n (λ j l h. other j (λ e. omega (arith, e, k, h))) in
-          omega (arith, sum-next (λ E. 1) a n, sum-next (λ E. 1) b n, one-each (b (suc n)), rest)
-      | no k ↦
-          let here = ap (figure-of (λ E. 1)) (other (suc n) k) in
-          omega (arith, sum-next (λ E. 1) a n, sum-next (λ E. 1) b n, here, at-most-one-more a b m other n)
+at-most-one-more a b m other n =
+    elim (decLe 1 m) [
+      | yes l ↦ elim (decLe m n) [ yes h ↦ among l h | no h ↦ same (λ j p q e. h (omega (arith, e, q))) ]
+      | no l ↦ same (λ j p q e. l (omega (arith, e, p)))
     ]
+  where
+    among : 1 ≤ m → m ≤ n → over-numbers (λ E. 1) b n ≤ suc (over-numbers (λ E. 1) a n)
+    among l h = omega (arith, one-other (λ E. 1) a b m other n l h, one-each (b m))
+
+    same : ((j : ℕ) → 1 ≤ j → j ≤ n → m ≡ j → ⊥) → over-numbers (λ E. 1) b n ≤ suc (over-numbers (λ E. 1) a n)
+    same apart = omega (arith, same-sum (λ E. 1) a b n (λ j l h. other j (apart j l h)))

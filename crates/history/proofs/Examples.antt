@@ -48,19 +48,23 @@ module _ (E : Enquiry) (accepted : flux-of E .state ≡ 0) where
       claims .answered (lights k) (Light m E)
       ∙ due-accepted (history (lights k)) m E (omega arith) most (a .out m new) (omega (arith, a .burning, space)) accepted
 
+  pub one-more-burns : (k m : ℕ) → k < 32 → k < m → m ≤ 255 → Alight k → afresh (history (Light m E ∷ lights k)) .burning ≡ suc k
+  one-more-burns k m space new most a =
+      let c = Light m E in
+      let more =
+      one-more (λ E. 1) (set-after (lights k)) (set-after (c ∷ lights k)) m E (a .out m new)
+      (set-accepted (lights k) c m (lights-another k m space new most a) refl) (λ j different. sym (set-other (lights k) c j different)) 255 (omega arith) most
+      in
+      omega (arith, more, a .burning)
+
   alight-next : (k : ℕ) → k < 32 → Alight k → Alight (suc k)
   alight-next k l a =
       let c = Light (suc k) E in
-      let accepted = lights-another k (suc k) l (omega arith) (omega arith) a in
-      let more =
-      one-more (λ E. 1) (set-after (lights k)) (set-after (lights (suc k))) (suc k) E (a .out (suc k) (omega arith))
-      (set-accepted (lights k) c (suc k) accepted refl) (λ j different. sym (set-other (lights k) c j different)) 255 (omega arith) (omega arith)
-      in
       record {
-        burning = omega (arith, more, a .burning);
+        burning = one-more-burns k (suc k) l (omega arith) (omega arith) a;
         lit =
             λ m least most. elim (ℕ-discrete (suc k) m) [
-              | yes e ↦ set-accepted (lights k) c m accepted e
+              | yes e ↦ set-accepted (lights k) c m (lights-another k (suc k) l (omega arith) (omega arith) a) e
               | no e ↦ set-other (lights k) c m e ∙ a .lit m least (omega (arith, e, most))
             ];
         out = λ m l. set-other (lights k) c m (λ e. omega (arith, e, l)) ∙ a .out m (omega arith);

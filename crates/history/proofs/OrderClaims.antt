@@ -56,8 +56,8 @@ module _ (before : List Call) where
 burns-too : (these those : List Call) → SameSetAndSums these those → (number : ℕ) (E : Enquiry) → Burns (after these) number E → Burns (after those) number E
 burns-too these those same number E b = claims .lit those number E (sym (same .set number) ∙ claims .only-lit these number E b)
 
-of-registers : (these those : List Call) → SameSetAndSums these those → SamePoolsAndSums (after these) (after those)
-of-registers these those same =
+same-pools : (these those : List Call) → SameSetAndSums these those → SamePoolsAndSums (after these) (after those)
+same-pools these those same =
     let back : SameSetAndSums those these = record { set = λ n. sym (same .set n); sums = sym (same .sums) } in
     record { in-second = burns-too these those same; in-first = burns-too those these back; sums = same .sums }
 
@@ -70,5 +70,5 @@ order-claims =
       restored = λ before number E out. same-by-set (PutOut number ∷ Light number E ∷ before) before (out-again before number E out);
       can-be-put-out = can-be-put-out;
       unchanged = λ before c l. same-by-set (c ∷ before) before (λ n. set-refused before c n (called (after before) c .state) l refl);
-      of-registers = of-registers;
+      same-pools = same-pools;
     }

@@ -17,12 +17,14 @@ use Rattle.register.specs.Places.{vacant}
 use Rattle.register.specs.Calls.{replaced, lit}
 use Rattle.register.proofs.ByNumber.{replaced-here, replaced-later}
 use Rattle.register.proofs.Outcomes.{by-light}
-use Rattle.history.specs.History.{Call, Light, PutOut, called, after, about}
+use Rattle.history.specs.History.{Call, Light, PutOut, called, after, history, about}
 use Rattle.history.specs.Claims.{place-at}
 use Rattle.history.specs.OrderClaims.{set-after, Crossing}
-use Rattle.history.proofs.Sets.{burning-afresh, out-after-put-out}
+use Rattle.history.proofs.Due.{due-full}
+use Rattle.history.proofs.Claims.{claims}
+use Rattle.history.proofs.Sets.{set-other, burning-afresh, out-after-put-out}
 use Rattle.history.proofs.OrderClaims.{order-claims}
-use Rattle.history.proofs.Examples.{lights-of, alight, another-lit, one-put-out, full}
+use Rattle.history.proofs.Examples.{lights-of, one-more-burns, alight, another-lit, one-put-out}
 
 -- Two calls that cross, both accepted in either order.
 pub record BothAccepted (before : List Call) (one other : Call) : Type 0 where
@@ -65,12 +67,18 @@ module _ (E : Enquiry) (accepted : flux-of E .state ≡ 0) where
       both-accepted 30 (lit≤ tt) (PutOut 1) (PutOut 2) (λ e. omega (arith, e)) (one-put-out E accepted 30 1 (lit≤ tt) (lit≤ tt) (lit≤ tt))
       (one-put-out E accepted 30 2 (lit≤ tt) (lit≤ tt) (lit≤ tt))
 
-  -- With 31 burning: each alone, and the two in a row.
+  -- With 31 burning: each alone, and any two in a row.
   pub each-lit-with-31 : (m : ℕ) → 31 < m → m ≤ 255 → called (after (lights-of E 31)) (Light m E) .state ≡ 0
   each-lit-with-31 m = another-lit E accepted 31 m (lit< tt)
 
-  pub second-refused-with-31 : called (after (Light 32 E ∷ lights-of E 31)) (Light 33 E) .state ≡ 52
-  second-refused-with-31 = full E accepted
+  pub second-refused-with-31 :
+      (m n : ℕ) → 31 < m → m ≤ 255 → 31 < n → n ≤ 255 → (m ≡ n → ⊥) → called (after (Light m E ∷ lights-of E 31)) (Light n E) .state ≡ 52
+  second-refused-with-31 m n new most new-too most-too different =
+      let a = alight E accepted 31 (lit≤ tt) in
+      let before = Light m E ∷ lights-of E 31 in
+      claims .answered before (Light n E)
+      ∙ due-full (history before) n E (omega arith) most-too (set-other (lights-of E 31) (Light m E) n different ∙ a .out n new-too)
+      (omega (arith, one-more-burns E accepted 31 m (lit< tt) new most a))
 
   -- Pool 31 is out before, as `restored` asks; pool 1 burns before, and is not restored.
   pub pool-31-out : set-after (lights-of E 30) 31 ≡ none

@@ -71,12 +71,12 @@ module _ (calls : List Call) (r : Register) (reached : r ≡ after calls) where
     second-register : c .second .register ≡ after (other ∷ one ∷ calls)
     second-register = returned-register (one ∷ calls) (c .first .register) first-register (c .second) other (c .second-is)
 
-  same-pools :
+  same-pools-returned :
       {one other : Call} (c : OneThenOther r one other) (those : List Call) (s : Register) → s ≡ after those → SameSetAndSums (other ∷ one ∷ calls) those
       → SamePoolsAndSums (c .second .register) s
-  same-pools {one} {other} c those s e same =
+  same-pools-returned {one} {other} c those s e same =
       subst (SamePoolsAndSums (c .second .register)) (sym e)
-      (subst (λ R. SamePoolsAndSums R (after those)) (sym (second-register c)) (order-claims .of-registers (other ∷ one ∷ calls) those same))
+      (subst (λ R. SamePoolsAndSums R (after those)) (sym (second-register c)) (order-claims .same-pools (other ∷ one ∷ calls) those same))
 
   module _ (one other : Call) (x : Crossing calls one other) (c : OneThenOther r one other) (d : OneThenOther r other one) where
     pub returned-alike : state-of (d .second .outcome) ≡ state-of (c .first .outcome)
@@ -84,7 +84,7 @@ module _ (calls : List Call) (r : Register) (reached : r ≡ after calls) where
 
     pub returned-either-order : SamePoolsAndSums (c .second .register) (d .second .register)
     returned-either-order =
-        same-pools c (one ∷ other ∷ calls) (d .second .register) (second-register d) (order-claims .either-order calls one other x)
+        same-pools-returned c (one ∷ other ∷ calls) (d .second .register) (second-register d) (order-claims .either-order calls one other x)
 
   pub returned-can-be-put-out :
       (number : ℕ) (E : Enquiry) (c : OneThenOther r (Light number E) (PutOut number)) → state-of (c .first .outcome) ≡ 0 → state-of (c .second .outcome) ≡ 0
@@ -93,7 +93,7 @@ module _ (calls : List Call) (r : Register) (reached : r ≡ after calls) where
   pub returned-restored :
       (number : ℕ) (E : Enquiry) → ((F : Enquiry) → Burns r number F → ⊥) → (c : OneThenOther r (Light number E) (PutOut number))
       → SamePoolsAndSums (c .second .register) r
-  returned-restored number E out c = same-pools c calls r reached (order-claims .restored calls number E (by-pool (set-after calls number) refl))
+  returned-restored number E out c = same-pools-returned c calls r reached (order-claims .restored calls number E (by-pool (set-after calls number) refl))
     where
       by-pool : (p : Option Enquiry) → set-after calls number ≡ p → set-after calls number ≡ none
       by-pool none e = e

@@ -66,7 +66,7 @@ burning-afresh calls = ap (λ (t : Totals). t .burning) (claims .sums calls)
 
 pub at-most-one-more-burns : (calls : List Call) (c : Call) → burning-after (c ∷ calls) ≤ suc (burning-after calls)
 at-most-one-more-burns calls c =
-    let more = at-most-one-more (set-after calls) (set-after (c ∷ calls)) (about c) (λ n. set-other calls c n) 255 in
+    let more = at-most-one-more (set-after calls) (set-after (c ∷ calls)) (about c) (λ n different. sym (set-other calls c n different)) 255 in
     omega (arith, burning-afresh calls, burning-afresh (c ∷ calls), more)
 
 -- ---- put out

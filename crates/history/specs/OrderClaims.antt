@@ -51,4 +51,4 @@ pub record OrderClaims : Type 0 where
   -- Where a call is refused, nothing has changed: `kept` of Claims says so of every place.
   pub unchanged : (before : List Call) (c : Call) → 1 ≤ called (after before) c .state → SameSetAndSums (c ∷ before) before
   -- The set is that of the register (`lit` and `only-lit` of Claims); so where set and sums are the same, the registers have the same pools.
-  pub of-registers : (these those : List Call) → SameSetAndSums these those → SamePoolsAndSums (after these) (after those)
+  pub same-pools : (these those : List Call) → SameSetAndSums these those → SamePoolsAndSums (after these) (after those)
