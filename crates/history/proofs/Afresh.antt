@@ -33,7 +33,7 @@ module _ (figure : Enquiry → ℕ) where
       omega (arith, sum-next a n, sum-next b n, rest, last)
 
   -- Where only the pool of one number may differ, the sums differ by its figures.
-  one-other :
+  pub one-other :
       (a b : ℕ → Option Enquiry) (m : ℕ) → ((k : ℕ) → (m ≡ k → ⊥) → a k ≡ b k)
       → (n : ℕ) → 1 ≤ m → m ≤ n → over-numbers figure b n + figure-of figure (a m) ≡ over-numbers figure a n + figure-of figure (b m)
   one-other a b m other zero l h = absurd (omega arith)

@@ -59,7 +59,7 @@ module _ (calls : List Call) where
       once-at (R .places) (f .sound) i j (omega (arith, l, f .long)) (omega (arith, h, f .long)) (λ z. omega (arith, k, z)) e
 
   -- ---- the sums
-  sum-afresh :
+  pub sum-afresh :
       (of-pool : BurningPool → ℕ) (figure : Enquiry → ℕ) → ((p : BurningPool) → AsLit p → of-pool p ≡ figure (p .enquiry))
       → over-burning of-pool (R .places) ≡ over-numbers figure (λ n. lit-with n (history calls)) 255
   sum-afresh of-pool figure same =

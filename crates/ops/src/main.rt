@@ -29,6 +29,10 @@ use register::sums::Totals;
 use register_lines::ReplyAndRegister;
 use register_lines::light_of;
 use register_lines::out_of;
+use shape::has_shape;
+use shape::word_at;
+use which::which_pools::FewestPools;
+use which::which_pools::which_pools;
 
 // 21 to 23 of document 01.
 fn outside_number(why: Outside) -> u64 {
@@ -156,6 +160,18 @@ fn print_reply(r: Reply) {
     io::write_all(STDOUT_FILENO, b"\n");
 }
 
+// The state, how many pools, and their numbers; 55 of document 02.
+fn print_fewest(w: FewestPools) {
+    io::print_decimal(STDOUT_FILENO, w.state as u64);
+    print_after_blank(w.count as u64);
+    let mut i = 0;
+    while i < 32 && i < w.count as usize {
+        print_after_blank(w.numbers[i] as u64);
+        i += 1;
+    }
+    io::write_all(STDOUT_FILENO, b"\n");
+}
+
 fn print_and_keep(answered: ReplyAndRegister) -> Register {
     let reply = answered.reply;
     print_reply(reply);
@@ -171,6 +187,10 @@ fn answer_line(line: &[u8], r: Register) -> Register {
     }
     if same(&line[0..end], b"out") {
         return print_and_keep(out_of(r, ns));
+    }
+    if same(&line[0..end], b"which") && has_shape(ns, b"w") {
+        print_fewest(which_pools(r, word_at(ns, 0)));
+        return r;
     }
     print_reply(called(&line[0..end], ns));
     r

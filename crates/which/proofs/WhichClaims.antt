@@ -1,0 +1,236 @@
+-- What is claimed of the pools given. From the claims of the register, by the order of the pools and the last that goes in. Assumes nothing.
+use mathlib.Core.Path.{_≡_, refl, sym, ap, subst, _∙_}
+use mathlib.Core.Bool.{true, false, true≢false}
+use mathlib.Core.Option.{Option, none, some}
+use mathlib.Core.List.{List, [], _∷_, _++_}
+use Prim.Native.Nat.{ℕ, zero, suc, _+_, _-_, _*_, _≤_, _<_}
+use native.Mathlib.Nat.{lt-of-not-le, suc-mul, lt-of-mul-lt-mul-right}
+use native.Mathlib.Decide.{decLe}
+use native.Mathlib.Omega.{arith}
+use lib.ListN.{length, getD, take, replicate, length-append, length-replicate, getD-replicate, List·getD-eq-default, List·getD-append}
+use lib.Seq.{take-append-seam, getD-append-add}
+use Rattle.chain.specs.declared.enquiry.Enquiry.{Enquiry}
+use Rattle.chain.specs.Flux.{flux-of}
+use Rattle.register.specs.declared.places.BurningPool.{BurningPool}
+use Rattle.register.specs.declared.places.Register.{Register}
+use Rattle.register.specs.Sums.{over-burning, sums-of}
+use Rattle.register.proofs.ByNumber.{pool-at}
+use Rattle.register.proofs.FirstPlace.{most-burn}
+use Rattle.history.specs.History.{Call, after, history, lit-with, is-lit, figure-of, over-numbers}
+use Rattle.history.specs.Claims.{place-at, Burns, AsLit}
+use Rattle.history.specs.OrderClaims.{set-after}
+use Rattle.history.proofs.Follows.{follows}
+use Rattle.history.proofs.Claims.{claims, sum-afresh}
+use Rattle.which.specs.declared.which_pools.FewestPools.{FewestPools}
+use Rattle.which.specs.WhichPools.{in-order, until-over, given, which-of}
+use Rattle.which.specs.WhichClaims.{Burning, low-of, sum-of, nth, Explains, Before, pools-of, pools-given, WhichClaims}
+use Rattle.which.proofs.InOrder.{sum-over, sum-over-none, sum-over-next, sum-in-order}
+use Rattle.which.proofs.Ranked.{Each, each-at, each-by-place, each-in-order, each-burning, each-map, Leads, ranked, ranked-at}
+use Rattle.which.proofs.UntilOver.{not-over, is-over, by-answer, until-at, until-among, until-sum, Last, last}
+use Rattle.which.proofs.Fewest.{same-figures, Numbers, sum-different, sum-above}
+
+-- ---- the numbers in 32 places
+module _ (state : ℕ) (ns : List ℕ) where
+  given-pools : pools-of (given state ns) ≡ ns
+  given-pools = take-append-seam ns (replicate (32 - length ns) 0)
+
+  given-places : length ns ≤ 32 → length (given state ns .numbers) ≡ 32
+  given-places l = omega (arith, l, length-append ns (replicate (32 - length ns) 0), length-replicate {A = ℕ} (32 - length ns) 0)
+
+  zeros : (k i : ℕ) → nth (replicate k 0) i ≡ 0
+  zeros k i =
+      elim (decLe k i) [
+        | yes l ↦ List·getD-eq-default (replicate k 0) 0 (omega (arith, length-replicate {A = ℕ} k 0))
+        | no l ↦ getD-replicate k i 0 0 (lt-of-not-le l)
+      ]
+
+  given-past : (i : ℕ) → length ns ≤ i → nth (given state ns .numbers) i ≡ 0
+  given-past i l =
+      let rest : i ≡ length ns + (i - length ns) = omega arith in
+      ap (nth (given state ns .numbers)) rest ∙ getD-append-add ns (replicate (32 - length ns) 0) (i - length ns) 0
+      ∙ zeros (32 - length ns) (i - length ns)
+
+how-many-in : (ps : List BurningPool) → length ps ≡ sum-over (λ p. 1) ps
+how-many-in [] = sym (sum-over-none (λ p. 1))
+how-many-in (p ∷ ps) = omega (arith, sum-over-next (λ q. 1) p ps, how-many-in ps)
+
+places : (R : Register) (limit : ℕ) → length (R .places) ≡ 32 → length (which-of R limit .numbers) ≡ 32
+places R limit long =
+    by-answer R limit (λ w. length (w .numbers) ≡ 32) (λ l. refl)
+    (λ l.
+    let pools = in-order (R .places) in
+    given-places 0 (until-over limit 0 pools)
+    (omega (arith, until-among limit 0 pools, how-many-in pools, sum-in-order (λ p. 1) (R .places), most-burn (R .places), long)))
+
+-- ---- after a list of calls
+-- A pool in the register as the calls have it.
+record Known (calls : List Call) (p : BurningPool) : Type 0 where
+  burning : Burning calls (p .number)
+  low : low-of calls (p .number) ≡ p .low
+
+leads-before : (calls : List Call) (p q : BurningPool) → Known calls p → Known calls q → Leads p q → Before calls (p .number) (q .number)
+leads-before calls p q k m l =
+    record {
+      larger-low = omega (arith, k .low, m .low, l .low);
+      smaller-number = λ e. l .number (sym (k .low) ∙ e ∙ m .low);
+    }
+
+-- A pool that is not in a list comes after each that is.
+abbrev LeftOut : List Call → List ℕ → ℕ → Type 0
+LeftOut calls ns number = ((i : ℕ) → i < length ns → nth ns i ≡ number → ⊥) → (i : ℕ) → i < length ns → Before calls (nth ns i) number
+
+module _ (calls : List Call) where
+  abbrev ps : List BurningPool
+  ps = after calls .places
+
+  abbrev pools : List BurningPool
+  pools = in-order ps
+
+  known : Each (Known calls) pools
+  known = each-in-order (Known calls) ps (each-by-place (λ p. (p .number ≡ 0 → ⊥) → Known calls p) ps at)
+    where
+      at : (i : ℕ) → i < length ps → (pool-at ps i .number ≡ 0 → ⊥) → Known calls (pool-at ps i)
+      at i l k =
+          let there : i < 32 = omega (arith, l, claims .places calls) in
+          let least : 1 ≤ pool-at ps i .number = omega (arith, k) in
+          let lit =
+          claims .only-lit calls (pool-at ps i .number) (pool-at ps i .enquiry)
+          (record { place = i; there = there; least = least; number-there = refl; enquiry = refl }) in
+          record { burning = ap is-lit lit; low = ap (figure-of (λ E. flux-of E .low)) lit ∙ sym (claims .as-lit calls i there least .low) }
+
+  known-at : (i : ℕ) → i < length pools → Known calls (pool-at pools i)
+  known-at = each-at (Known calls) pools known
+
+  leads-at : (i j : ℕ) → i < j → j < length pools → Leads (pool-at pools i) (pool-at pools j)
+  leads-at = ranked-at pools (ranked ps (follows calls .sound))
+
+  before-at : (i j : ℕ) → i < j → j < length pools → Before calls (pool-at pools i .number) (pool-at pools j .number)
+  before-at i j l h =
+      leads-before calls (pool-at pools i) (pool-at pools j) (known-at i (omega arith)) (known-at j h) (leads-at i j l h)
+
+  -- A number from 1 to 255, with its place.
+  burns : (number : ℕ) → Burning calls number → (E : Enquiry) × Burns (after calls) number E
+  burns number b = by-pool (set-after calls number) refl
+    where
+      by-pool : (o : Option Enquiry) → set-after calls number ≡ o → (E : Enquiry) × Burns (after calls) number E
+      by-pool none e = absurd (true≢false (sym b ∙ ap is-lit e))
+      by-pool (some E) e = (E, claims .lit calls number E e)
+
+  module _ (limit : ℕ) where
+    abbrev ns : List ℕ
+    ns = until-over limit 0 pools
+
+    among : (i : ℕ) → i < length ns → i < length pools
+    among i l = omega (arith, l, until-among limit 0 pools)
+
+    at : (i : ℕ) → i < length ns → nth ns i ≡ pool-at pools i .number
+    at = until-at limit 0 pools
+
+    before : (i j : ℕ) → i < j → j < length ns → Before calls (nth ns i) (nth ns j)
+    before i j l h =
+        subst (Before calls (nth ns i)) (sym (at j h))
+        (subst (λ n. Before calls n (pool-at pools j .number)) (sym (at i (omega arith))) (before-at i j l (among j h)))
+
+    lows-over : limit < sums-of (after calls) .lows → limit < 0 + sum-over (λ p. p .low) pools
+    lows-over o = omega (arith, o, sum-in-order (λ p. p .low) ps)
+
+    explained : limit < sums-of (after calls) .lows → Explains calls limit ns
+    explained o =
+        record {
+          burning = λ i l. subst (Burning calls) (sym (at i l)) (known-at i (among i l) .burning);
+          once = once;
+          over =
+              let lows = each-map (Known calls) (λ p. low-of calls (p .number) ≡ p .low) (λ p k. k .low) pools known in
+              omega (arith, until-sum limit (low-of calls) 0 pools lows (lows-over o));
+        }
+      where
+        apart : (i j : ℕ) → i < j → j < length ns → nth ns i ≡ nth ns j → ⊥
+        apart i j l h e = omega (arith, before i j l h .smaller-number (ap (low-of calls) e), e)
+
+        once : (i j : ℕ) → i < length ns → j < length ns → nth ns i ≡ nth ns j → i ≡ j
+        once i j l h e =
+            elim (decLe i j) [
+              | yes k ↦ elim (decLe j i) [ yes m ↦ omega arith | no m ↦ absurd (apart i j (lt-of-not-le m) h e) ]
+              | no k ↦ absurd (apart j i (lt-of-not-le k) l (sym e))
+            ]
+
+    module _ (others : List ℕ) (x : Explains calls limit others) (o : limit < sums-of (after calls) .lows) where
+      numbers : Numbers 255 others
+      numbers =
+          record {
+            least = λ i l. burns (nth others i) (x .burning i l) .1 .least;
+            most = λ i l. most i (burns (nth others i) (x .burning i l) .1);
+            once = x .once;
+          }
+        where
+          most : (i : ℕ) → {E : Enquiry} → Burns (after calls) (nth others i) E → nth others i ≤ 255
+          most i b =
+              omega (arith, b .number-there, claims .as-lit calls (b .place) (b .there) (omega (arith, b .number-there, b .least)) .most)
+
+      -- What the lows of the others have above t is at most what all lows have.
+      above : (t : ℕ) → sum-of (λ n. low-of calls n - t) others ≤ sum-over (λ p. p .low - t) pools
+      above t =
+          let all = sum-afresh calls (λ p. p .low - t) (λ E. flux-of E .low - t) (λ p a. ap (λ l. l - t) (a .low)) in
+          let same = same-figures (λ n. low-of calls n - t) (λ n. figure-of (λ E. flux-of E .low - t) (set-after calls n)) others (λ i l. each (set-after calls (nth others i))) in
+          omega (arith, same, sum-different (λ E. flux-of E .low - t) 255 (set-after calls) others numbers, all, sum-in-order (λ p. p .low - t) ps)
+        where
+          each : (o : Option Enquiry) → figure-of (λ E. flux-of E .low) o - t ≡ figure-of (λ E. flux-of E .low - t) o
+          each none = omega arith
+          each (some E) = refl
+
+      no-fewer : length ns ≤ length others
+      no-fewer =
+          let a : Last limit 0 pools (length ns) = last limit 0 pools (ranked ps (follows calls .sound)) (omega arith) (lows-over o) in
+          let t = a .t in
+          let less : length ns * t < suc (length others) * t =
+          omega (arith, a .fits, x .over, sum-above (low-of calls) t others, above t, suc-mul (length others) t) in
+          omega (arith, lt-of-mul-lt-mul-right t less)
+
+    left-out : (number : ℕ) → Burning calls number → LeftOut calls ns number
+    left-out number b =
+        let there = burns number b .1 in
+        let here = each-at (λ p. (p .number ≡ 0 → ⊥) → LeftOut calls ns (p .number)) ps each (there .place) (omega (arith, there .there, claims .places calls)) in
+        subst (LeftOut calls ns) (there .number-there) (here (λ z. omega (arith, z, there .number-there, there .least)))
+      where
+        at-place : (j : ℕ) → j < length pools → LeftOut calls ns (pool-at pools j .number)
+        at-place j h out i l =
+            elim (decLe (length ns) j) [
+              | yes k ↦ subst (λ n. Before calls n (pool-at pools j .number)) (sym (at i l)) (before-at i j (omega arith) h)
+              | no k ↦ absurd (out j (lt-of-not-le k) (at j (lt-of-not-le k)))
+            ]
+
+        each : Each (λ p. (p .number ≡ 0 → ⊥) → LeftOut calls ns (p .number)) ps
+        each = each-burning (λ p. LeftOut calls ns (p .number)) ps (each-by-place (λ p. LeftOut calls ns (p .number)) pools at-place)
+
+    -- The set given is empty, or these.
+    by-given : (P : List ℕ → Type 0) → P [] → (limit < sums-of (after calls) .lows → P ns) → P (pools-given calls limit)
+    by-given P refused these =
+        by-answer (after calls) limit (λ w. P (pools-of w)) (λ l. refused) (λ o. subst P (sym (given-pools 0 ns)) (these o))
+
+pub which-claims : WhichClaims
+which-claims =
+    record {
+      explains =
+          λ calls limit o.
+          subst (λ w. Explains calls limit (pools-of w)) (sym (is-over (after calls) limit o))
+          (subst (Explains calls limit) (sym (given-pools 0 (ns calls limit))) (explained calls limit o));
+      fewest = λ calls limit others x. by-given calls limit (λ l. length l ≤ length others) (omega arith) (no-fewer calls limit others x);
+      order =
+          λ calls limit i j l.
+          by-given calls limit (λ ns. j < length ns → Before calls (nth ns i) (nth ns j)) (λ h. absurd (omega arith)) (λ o. before calls limit i j l);
+      left-out =
+          λ calls limit number b.
+          by-given calls limit (λ ns. LeftOut calls ns number) (λ out i l. absurd (omega arith)) (λ o. left-out calls limit number b);
+      not-over = λ R limit l. ap (λ (w : FewestPools). w .state) (not-over R limit l);
+      over = λ R limit l. ap (λ (w : FewestPools). w .state) (is-over R limit l);
+      empty-set = λ R limit. by-answer R limit (λ w. w .state ≡ 55 → w .count ≡ 0) (λ l e. refl) (λ l e. absurd (omega (arith, e)));
+      size =
+          λ R limit.
+          by-answer R limit (λ w. length (pools-of w) ≡ w .count) (λ l. refl)
+          (λ l. ap length (given-pools 0 (until-over limit 0 (in-order (R .places)))));
+      places = places;
+      past-the-count =
+          λ R limit i.
+          by-answer R limit (λ w. w .count ≤ i → nth (w .numbers) i ≡ 0) (λ l. given-past 55 [] i)
+          (λ l. given-past 0 (until-over limit 0 (in-order (R .places))) i);
+    }
