@@ -1,13 +1,17 @@
 //! Times calls on the register by the program `speed` beside the Rust version by other hands, and compares their check sums: by turns a pool
-//! is lit, and the one that was lit twelve pools before it is put out.
+//! is lit, and the one that was lit twelve pools before it is put out; and which of 32 pools put it over one limit after another.
 
 use crate::proved::REQUESTS;
 use crate::turns;
 use reference::{Enquiry, Register};
 use std::hint::black_box;
 
-const COUNT: u64 = 20_000;
-const RUNS: usize = 10;
+const CALLS: u64 = 20_000;
+const CALL_RUNS: usize = 10;
+
+/// Fewer, since the Rust version works every pool's flux anew for each limit.
+const LIMITS: u64 = 10_000;
+const LIMIT_RUNS: usize = 3;
 
 /// The enquiry of the k-th pool that is lit: each method and face, at 16 distances.
 fn enquiry_of(k: u64) -> Enquiry {
@@ -48,10 +52,26 @@ fn check_sum(count: u64, after_each: bool) -> u64 {
     with_sums(total, &register)
 }
 
+/// The check sum of `count` answers to which pools put it over, at limits from 0 to 199,800 W/m² in steps of 200, with the pools from 1 to 32
+/// alight.
+fn which_sum(count: u64) -> u64 {
+    let mut register = Register::new();
+    for k in 0..32 {
+        register.light(REQUESTS, k + 1, &enquiry_of(k));
+    }
+    let mut total = 0;
+    for n in 0..count {
+        let (state, numbers) = register.which_pools(REQUESTS, n % 1000 * 200);
+        total += u64::from(state) + numbers.len() as u64;
+        total += numbers.iter().map(|&number| u64::from(number)).sum::<u64>();
+    }
+    total
+}
+
 /// One line of the table: what `speed` runs, and the same by the Rust version; true where the check sums agree.
-fn compared(program: &str, name: &str, what: &str, after_each: bool) -> bool {
-    let thousands = COUNT as f64 / 1e3;
-    turns::compared(name, RUNS, thousands, || crate::rattle(program, what, COUNT), || check_sum(black_box(COUNT), after_each))
+fn compared(program: &str, name: &str, what: &str, runs: usize, count: u64, theirs: impl Fn(u64) -> u64) -> bool {
+    let thousands = count as f64 / 1e3;
+    turns::compared(name, runs, thousands, || crate::rattle(program, what, count), || theirs(black_box(count)))
 }
 
 /// The table of calls; true where all check sums agree.
@@ -59,8 +79,9 @@ pub fn table(program: &str) -> bool {
     println!("| a thousand calls | Rattle, ms | Rust, ms | times faster |");
     println!("|---|---|---|---|");
     let agree = [
-        compared(program, "lit or put out", "calls", false),
-        compared(program, "the same, and the sums after each", "calls_and_sums", true),
+        compared(program, "lit or put out", "calls", CALL_RUNS, CALLS, |count| check_sum(count, false)),
+        compared(program, "the same, and the sums after each", "calls_and_sums", CALL_RUNS, CALLS, |count| check_sum(count, true)),
+        compared(program, "which pools, of 32", "which", LIMIT_RUNS, LIMITS, which_sum),
     ];
     !agree.contains(&false)
 }

@@ -6,6 +6,12 @@ pub mod Due
 pub mod Claims
 pub mod Sets
 pub mod OrderClaims
+pub mod Ranked
+pub mod KnownPools
+pub mod SamePools
+pub mod Fewest
+pub mod PoolsGiven
+pub mod WhichClaims
 pub mod Returned
 pub mod Examples
 pub mod OrderExamples

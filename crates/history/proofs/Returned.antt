@@ -1,10 +1,12 @@
 -- The claims of the code: `empty`, and after it every register that `light` and `put_out` return, is that of the list of calls, so what is
 -- claimed holds of it; and what `sums` returns of it is worked afresh. Two calls return the same set and sums in either order; a pool lit and
--- put out again, those of before. From the contracts, which are the premises. Assumes nothing.
+-- put out again, those of before. The pools that `which_pools` returns are the fewest that put it over. From the contracts, which are the
+-- premises. Assumes nothing.
 use mathlib.Core.Path.{_≡_, refl, sym, ap, subst, _∙_}
 use mathlib.Core.Option.{Option, none, some}
 use mathlib.Core.List.{List, [], _∷_}
-use Prim.Native.Nat.{ℕ, _≤_}
+use Prim.Native.Nat.{ℕ, _≤_, _<_}
+use lib.ListN.{length}
 use Rattle.chain.specs.declared.enquiry.Enquiry.{Enquiry}
 use Rattle.register.specs.declared.places.Register.{Register}
 use Rattle.register.specs.declared.calls.Called.{Called}
@@ -12,11 +14,15 @@ use Rattle.register.specs.declared.sums.Totals.{Totals}
 use Rattle.register.specs.Places.{no-pools}
 use Rattle.register.specs.Sums.{sums-of}
 use Rattle.register.specs.Calls.{Shown, state-of, shown}
+use Rattle.which.specs.declared.which_pools.FewestPools.{FewestPools}
+use Rattle.which.specs.WhichPools.{which-of}
 use Rattle.history.specs.History.{Call, Light, PutOut, called, after, history, afresh, due}
 use Rattle.history.specs.Claims.{Burns}
 use Rattle.history.specs.OrderClaims.{set-after, SameSetAndSums, SamePoolsAndSums, Crossing}
+use Rattle.history.specs.WhichClaims.{Explains, pools-of, pools-given}
 use Rattle.history.proofs.Claims.{claims}
 use Rattle.history.proofs.OrderClaims.{order-claims}
+use Rattle.history.proofs.WhichClaims.{which-claims}
 
 -- r is what `empty` returns
 pub returned-empty : (r : Register) → r ≡ no-pools → r ≡ after []
@@ -98,3 +104,19 @@ module _ (calls : List Call) (r : Register) (reached : r ≡ after calls) where
       by-pool : (p : Option Enquiry) → set-after calls number ≡ p → set-after calls number ≡ none
       by-pool none e = e
       by-pool (some F) e = absurd (out F (subst (λ R. Burns R number F) (sym reached) (claims .lit calls number F e)))
+
+-- ---- which pools put it over
+-- t is what `sums` returns, and w what `which_pools` returns
+module _ (calls : List Call) (r : Register) (reached : r ≡ after calls) (limit : ℕ) (w : FewestPools) (is : w ≡ which-of r limit) where
+  pub returned-pools : pools-of w ≡ pools-given calls limit
+  returned-pools = ap pools-of (is ∙ ap (λ R. which-of R limit) reached)
+
+  pub returned-explains : (t : Totals) → t ≡ sums-of r → limit < t .lows → Explains calls limit (pools-of w)
+  returned-explains t e over =
+      subst (Explains calls limit) (sym returned-pools)
+      (which-claims .explains calls limit (subst (λ (u : Totals). limit < u .lows) (e ∙ ap sums-of reached) over))
+
+  pub returned-fewest : (others : List ℕ) → Explains calls limit others → w .count ≤ length others
+  returned-fewest others x =
+      subst (λ n. n ≤ length others) (ap length (sym returned-pools) ∙ ap (λ (v : FewestPools). length (pools-of v)) is ∙ which-claims .size r limit ∙ ap (λ (v : FewestPools). v .count) (sym is))
+      (which-claims .fewest calls limit others x)

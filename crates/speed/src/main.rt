@@ -1,11 +1,13 @@
 // Runs one operation on pairs many times over a fixed random sequence, and prints the check sum of all its ends; or calls the register many
 // times, and prints the check sum of what it answers. The first argument names the operation, the second says how many times. With no
 // arguments each is run 1,000 times.
+mod limits;
 mod register_calls;
 mod sequence;
 
 use check::same;
 use libc::STDOUT_FILENO;
+use limits::which_sum;
 use pairs::answer::Answer;
 use pairs::answer::Pair;
 use register_calls::calls_sum;
@@ -132,6 +134,11 @@ fn print_calls(count: u64, after_each: bool) {
     io::write_all(STDOUT_FILENO, b"\n");
 }
 
+fn print_which(count: u64) {
+    io::print_decimal(STDOUT_FILENO, which_sum(count));
+    io::write_all(STDOUT_FILENO, b"\n");
+}
+
 fn print_each() {
     print_sum(Operation::Product, 1000);
     print_sum(Operation::Quotient, 1000);
@@ -142,6 +149,7 @@ fn print_each() {
     print_sum(Operation::ColdExpNeg, 1000);
     print_calls(1000, false);
     print_calls(1000, true);
+    print_which(1000);
 }
 
 // How many times: the second argument.
@@ -164,6 +172,10 @@ fn main() {
     }
     if same(&name[..n], b"calls_and_sums") {
         print_calls(count_asked(), true);
+        return;
+    }
+    if same(&name[..n], b"which") {
+        print_which(count_asked());
         return;
     }
     print_sum(named(&name[..n]), count_asked());

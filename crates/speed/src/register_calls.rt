@@ -11,7 +11,7 @@ use register::sums::sums;
 use std::num::wrapping_add_u64;
 
 // The enquiry of the k-th pool that is lit: each method and face, at 16 distances.
-fn enquiry_of(k: u64) -> Enquiry {
+pub(crate) fn enquiry_of(k: u64) -> Enquiry {
     Enquiry {
         rate: 39,
         absorption: 350,

@@ -1,20 +1,19 @@
 -- The burning pools in order: each leads all after it, where no number burns twice; and what holds of every burning pool holds of each of
 -- them, and the other way round. By induction over the places. Assumes nothing.
-use mathlib.Core.Path.{_≡_, refl, sym, ap, subst, _∙_}
-use mathlib.Core.Bool.{Bool, true, false}
+use mathlib.Core.Path.{_≡_, sym, subst, _∙_}
+use mathlib.Core.Bool.{true, false}
 use mathlib.Core.List.{List, [], _∷_}
 use Prim.Native.Nat.{ℕ, zero, suc, _≤_, _<_}
-use native.Mathlib.Nat.{lt-of-not-le}
-use native.Mathlib.Decide.{ℕ-discrete, decLe}
+use native.Mathlib.Decide.{ℕ-discrete}
 use native.Mathlib.Omega.{arith}
 use lib.ListN.{length}
 use borrow.Author.Tests.{ltb-true, ltb-false}
 use Rattle.register.specs.declared.places.BurningPool.{BurningPool}
 use Rattle.register.specs.Places.{has}
 use Rattle.register.proofs.ByNumber.{pool-at, by-number, not-here, not-later}
 use Rattle.history.proofs.Lookup.{Sound}
 use Rattle.which.specs.WhichPools.{goes-before, put-in, in-order}
 use Rattle.which.proofs.InOrder.{by-numbers, by-lows, by-put-in, in-order-none, in-order-vacant, in-order-burning}
 
 -- ---- what holds of each pool
 abbrev pub Each : (BurningPool → Type 0) → List BurningPool → Type 0

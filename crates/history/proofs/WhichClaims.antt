@@ -1,33 +1,37 @@
 -- What is claimed of the pools given. From the claims of the register, by the order of the pools and the last that goes in. Assumes nothing.
 use mathlib.Core.Path.{_≡_, refl, sym, ap, subst, _∙_}
-use mathlib.Core.Bool.{true, false, true≢false}
 use mathlib.Core.Option.{Option, none, some}
-use mathlib.Core.List.{List, [], _∷_, _++_}
-use Prim.Native.Nat.{ℕ, zero, suc, _+_, _-_, _*_, _≤_, _<_}
+use mathlib.Core.List.{List, [], _∷_}
+use Prim.Native.Nat.{ℕ, suc, _+_, _-_, _*_, _≤_, _<_}
 use native.Mathlib.Nat.{lt-of-not-le, suc-mul, lt-of-mul-lt-mul-right}
 use native.Mathlib.Decide.{decLe}
 use native.Mathlib.Omega.{arith}
-use lib.ListN.{length, getD, take, replicate, length-append, length-replicate, getD-replicate, List·getD-eq-default, List·getD-append}
+use lib.ListN.{length, replicate, length-append, length-replicate, getD-replicate, List·getD-eq-default}
 use lib.Seq.{take-append-seam, getD-append-add}
 use Rattle.chain.specs.declared.enquiry.Enquiry.{Enquiry}
 use Rattle.chain.specs.Flux.{flux-of}
 use Rattle.register.specs.declared.places.BurningPool.{BurningPool}
 use Rattle.register.specs.declared.places.Register.{Register}
-use Rattle.register.specs.Sums.{over-burning, sums-of}
+use Rattle.register.specs.declared.sums.Totals.{Totals}
+use Rattle.register.specs.Sums.{sums-of}
 use Rattle.register.proofs.ByNumber.{pool-at}
 use Rattle.register.proofs.FirstPlace.{most-burn}
-use Rattle.history.specs.History.{Call, after, history, lit-with, is-lit, figure-of, over-numbers}
-use Rattle.history.specs.Claims.{place-at, Burns, AsLit}
+use Rattle.history.specs.History.{Call, after, figure-of}
+use Rattle.history.specs.Claims.{Burns}
 use Rattle.history.specs.OrderClaims.{set-after}
 use Rattle.history.proofs.Follows.{follows}
 use Rattle.history.proofs.Claims.{claims, sum-afresh}
 use Rattle.which.specs.declared.which_pools.FewestPools.{FewestPools}
 use Rattle.which.specs.WhichPools.{in-order, until-over, given, which-of}
-use Rattle.which.specs.WhichClaims.{Burning, low-of, sum-of, nth, Explains, Before, pools-of, pools-given, WhichClaims}
+use Rattle.history.specs.WhichClaims.{Burning, low-of, sum-of, nth, Explains, Before, pools-of, pools-given, WhichClaims}
 use Rattle.which.proofs.InOrder.{sum-over, sum-over-none, sum-over-next, sum-in-order}
-use Rattle.which.proofs.Ranked.{Each, each-at, each-by-place, each-in-order, each-burning, each-map, Leads, ranked, ranked-at}
-use Rattle.which.proofs.UntilOver.{not-over, is-over, by-answer, until-at, until-among, until-sum, Last, last}
-use Rattle.which.proofs.Fewest.{same-figures, Numbers, sum-different, sum-above}
+use Rattle.history.proofs.Ranked.{Each, each-at, each-by-place, each-burning, each-map, Leads, ranked, ranked-at}
+use Rattle.which.proofs.UntilOver.{not-over, is-over, by-answer}
+use Rattle.history.proofs.PoolsGiven.{until-at, until-among, until-sum, Last, last}
+use Rattle.history.proofs.KnownPools.{Known, known, burns}
+use Rattle.history.proofs.SamePools.{same-given}
+use Rattle.history.proofs.Sets.{same-by-set}
+use Rattle.history.proofs.Fewest.{same-figures, Numbers, sum-different, sum-above}
 
 -- ---- the numbers in 32 places
 module _ (state : ℕ) (ns : List ℕ) where
@@ -63,11 +67,6 @@ places R limit long =
     (omega (arith, until-among limit 0 pools, how-many-in pools, sum-in-order (λ p. 1) (R .places), most-burn (R .places), long)))
 
 -- ---- after a list of calls
--- A pool in the register as the calls have it.
-record Known (calls : List Call) (p : BurningPool) : Type 0 where
-  burning : Burning calls (p .number)
-  low : low-of calls (p .number) ≡ p .low
-
 leads-before : (calls : List Call) (p q : BurningPool) → Known calls p → Known calls q → Leads p q → Before calls (p .number) (q .number)
 leads-before calls p q k m l =
     record {
@@ -86,20 +85,8 @@ module _ (calls : List Call) where
   abbrev pools : List BurningPool
   pools = in-order ps
 
-  known : Each (Known calls) pools
-  known = each-in-order (Known calls) ps (each-by-place (λ p. (p .number ≡ 0 → ⊥) → Known calls p) ps at)
-    where
-      at : (i : ℕ) → i < length ps → (pool-at ps i .number ≡ 0 → ⊥) → Known calls (pool-at ps i)
-      at i l k =
-          let there : i < 32 = omega (arith, l, claims .places calls) in
-          let least : 1 ≤ pool-at ps i .number = omega (arith, k) in
-          let lit =
-          claims .only-lit calls (pool-at ps i .number) (pool-at ps i .enquiry)
-          (record { place = i; there = there; least = least; number-there = refl; enquiry = refl }) in
-          record { burning = ap is-lit lit; low = ap (figure-of (λ E. flux-of E .low)) lit ∙ sym (claims .as-lit calls i there least .low) }
-
   known-at : (i : ℕ) → i < length pools → Known calls (pool-at pools i)
-  known-at = each-at (Known calls) pools known
+  known-at = each-at (Known calls) pools (known calls)
 
   leads-at : (i j : ℕ) → i < j → j < length pools → Leads (pool-at pools i) (pool-at pools j)
   leads-at = ranked-at pools (ranked ps (follows calls .sound))
@@ -107,14 +94,6 @@ module _ (calls : List Call) where
   before-at : (i j : ℕ) → i < j → j < length pools → Before calls (pool-at pools i .number) (pool-at pools j .number)
   before-at i j l h =
       leads-before calls (pool-at pools i) (pool-at pools j) (known-at i (omega arith)) (known-at j h) (leads-at i j l h)
-
-  -- A number from 1 to 255, with its place.
-  burns : (number : ℕ) → Burning calls number → (E : Enquiry) × Burns (after calls) number E
-  burns number b = by-pool (set-after calls number) refl
-    where
-      by-pool : (o : Option Enquiry) → set-after calls number ≡ o → (E : Enquiry) × Burns (after calls) number E
-      by-pool none e = absurd (true≢false (sym b ∙ ap is-lit e))
-      by-pool (some E) e = (E, claims .lit calls number E e)
 
   module _ (limit : ℕ) where
     abbrev ns : List ℕ
@@ -140,7 +119,7 @@ module _ (calls : List Call) where
           burning = λ i l. subst (Burning calls) (sym (at i l)) (known-at i (among i l) .burning);
           once = once;
           over =
-              let lows = each-map (Known calls) (λ p. low-of calls (p .number) ≡ p .low) (λ p k. k .low) pools known in
+              let lows = each-map (Known calls) (λ p. low-of calls (p .number) ≡ p .low) (λ p k. k .low) pools (known calls) in
               omega (arith, until-sum limit (low-of calls) 0 pools lows (lows-over o));
         }
       where
@@ -158,8 +137,8 @@ module _ (calls : List Call) where
       numbers : Numbers 255 others
       numbers =
           record {
-            least = λ i l. burns (nth others i) (x .burning i l) .1 .least;
-            most = λ i l. most i (burns (nth others i) (x .burning i l) .1);
+            least = λ i l. burns calls (nth others i) (x .burning i l) .1 .least;
+            most = λ i l. most i (burns calls (nth others i) (x .burning i l) .1);
             once = x .once;
           }
         where
@@ -188,7 +167,7 @@ module _ (calls : List Call) where
 
     left-out : (number : ℕ) → Burning calls number → LeftOut calls ns number
     left-out number b =
-        let there = burns number b .1 in
+        let there = burns calls number b .1 in
         let here = each-at (λ p. (p .number ≡ 0 → ⊥) → LeftOut calls ns (p .number)) ps each (there .place) (omega (arith, there .there, claims .places calls)) in
         subst (LeftOut calls ns) (there .number-there) (here (λ z. omega (arith, z, there .number-there, there .least)))
       where
@@ -207,6 +186,17 @@ module _ (calls : List Call) where
     by-given P refused these =
         by-answer (after calls) limit (λ w. P (pools-of w)) (λ l. refused) (λ o. subst P (sym (given-pools 0 ns)) (these o))
 
+same-answer :
+    (these those : List Call) (limit : ℕ) → ((n : ℕ) → set-after these n ≡ set-after those n) → which-of (after these) limit ≡ which-of (after those) limit
+same-answer these those limit same =
+    let lows = ap (λ (t : Totals). t .lows) (same-by-set these those same .sums) in
+    elim (decLe (sums-of (after these) .lows) limit) [
+      | yes l ↦ not-over (after these) limit l ∙ sym (not-over (after those) limit (omega (arith, l, lows)))
+      | no l ↦
+          is-over (after these) limit (lt-of-not-le l) ∙ ap (given 0) (same-given these those same limit)
+          ∙ sym (is-over (after those) limit (omega (arith, l, lows)))
+    ]
+
 pub which-claims : WhichClaims
 which-claims =
     record {
@@ -221,6 +211,7 @@ which-claims =
       left-out =
           λ calls limit number b.
           by-given calls limit (λ ns. LeftOut calls ns number) (λ out i l. absurd (omega arith)) (λ o. left-out calls limit number b);
+      same-answer = same-answer;
       not-over = λ R limit l. ap (λ (w : FewestPools). w .state) (not-over R limit l);
       over = λ R limit l. ap (λ (w : FewestPools). w .state) (is-over R limit l);
       empty-set = λ R limit. by-answer R limit (λ w. w .state ≡ 55 → w .count ≡ 0) (λ l e. refl) (λ l e. absurd (omega (arith, e)));

@@ -61,6 +61,10 @@ pub record WhichClaims : Type 0 where
       (calls : List Call) (limit number : ℕ) → Burning calls number
       → ((i : ℕ) → i < length (pools-given calls limit) → nth (pools-given calls limit) i ≡ number → ⊥)
       → (i : ℕ) → i < length (pools-given calls limit) → Before calls (nth (pools-given calls limit) i) number
+  -- Where the same pools burn, the answer is the same, in whatever order they were lit.
+  pub same-answer :
+      (these those : List Call) (limit : ℕ) → ((number : ℕ) → set-after these number ≡ set-after those number)
+      → which-of (after these) limit ≡ which-of (after those) limit
   -- "55, the sum of lows is not over the limit, given exactly then, with an empty set": every register, also one that no call makes
   pub not-over : (R : Register) (limit : ℕ) → sums-of R .lows ≤ limit → which-of R limit .state ≡ 55
   pub over : (R : Register) (limit : ℕ) → limit < sums-of R .lows → which-of R limit .state ≡ 0

@@ -11,9 +11,9 @@ use lib.Dec.{eqb}
 use lib.ListN.{length}
 use borrow.Author.Tests.{eq-eqb, ne-eqb}
 use Rattle.chain.specs.declared.enquiry.Enquiry.{Enquiry}
 use Rattle.history.specs.History.{figure-of, over-numbers}
 use Rattle.history.proofs.Afresh.{one-other}
-use Rattle.which.specs.WhichClaims.{sum-of, nth}
+use Rattle.history.specs.WhichClaims.{sum-of, nth}
 
 pub sum-none : (figure : ℕ → ℕ) → sum-of figure [] ≡ 0
 unfolding sum-of
