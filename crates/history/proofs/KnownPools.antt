@@ -39,7 +39,7 @@ module _ (calls : List Call) where
   pub known : Each (Known calls) (in-order ps)
   known = each-in-order (Known calls) ps (each-by-place (λ p. (p .number ≡ 0 → ⊥) → Known calls p) ps known-at-place)
 
-  -- A number from 1 to 255, with its place.
+  -- A pool that burns, with its enquiry and its place.
   pub burns : (number : ℕ) → Burning calls number → (E : Enquiry) × Burns (after calls) number E
   burns number b = by-pool (set-after calls number) refl
     where

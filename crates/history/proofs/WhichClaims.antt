@@ -14,19 +14,19 @@ use Rattle.register.specs.declared.places.BurningPool.{BurningPool}
 use Rattle.register.specs.declared.places.Register.{Register}
 use Rattle.register.specs.declared.sums.Totals.{Totals}
 use Rattle.register.specs.Sums.{sums-of}
-use Rattle.register.proofs.ByNumber.{pool-at}
-use Rattle.register.proofs.FirstPlace.{most-burn}
+use Rattle.which.specs.declared.which_pools.FewestPools.{FewestPools}
+use Rattle.which.specs.WhichPools.{in-order, until-over, given, which-of}
 use Rattle.history.specs.History.{Call, after, figure-of}
 use Rattle.history.specs.Claims.{Burns}
 use Rattle.history.specs.OrderClaims.{set-after}
+use Rattle.history.specs.WhichClaims.{Burning, low-of, total-of, nth, Explains, Before, pools-of, pools-given, WhichClaims}
+use Rattle.register.proofs.ByNumber.{pool-at}
+use Rattle.register.proofs.FirstPlace.{most-burn}
+use Rattle.which.proofs.InOrder.{sum-over, sum-over-none, sum-over-next, sum-in-order}
+use Rattle.which.proofs.UntilOver.{not-over, is-over, by-answer}
 use Rattle.history.proofs.Follows.{follows}
 use Rattle.history.proofs.Claims.{claims, sum-afresh}
-use Rattle.which.specs.declared.which_pools.FewestPools.{FewestPools}
-use Rattle.which.specs.WhichPools.{in-order, until-over, given, which-of}
-use Rattle.history.specs.WhichClaims.{Burning, low-of, sum-of, nth, Explains, Before, pools-of, pools-given, WhichClaims}
-use Rattle.which.proofs.InOrder.{sum-over, sum-over-none, sum-over-next, sum-in-order}
 use Rattle.history.proofs.Ranked.{Each, each-at, each-by-place, each-burning, each-map, Leads, ranked, ranked-at}
-use Rattle.which.proofs.UntilOver.{not-over, is-over, by-answer}
 use Rattle.history.proofs.PoolsGiven.{until-at, until-among, until-sum, Last, last}
 use Rattle.history.proofs.KnownPools.{Known, known, burns}
 use Rattle.history.proofs.SamePools.{same-given}
@@ -147,7 +147,7 @@ module _ (calls : List Call) where
               omega (arith, b .number-there, claims .as-lit calls (b .place) (b .there) (omega (arith, b .number-there, b .least)) .most)
 
       -- What the lows of the others have above t is at most what all lows have.
-      above : (t : ℕ) → sum-of (λ n. low-of calls n - t) others ≤ sum-over (λ p. p .low - t) pools
+      above : (t : ℕ) → total-of (λ n. low-of calls n - t) others ≤ sum-over (λ p. p .low - t) pools
       above t =
           let all = sum-afresh calls (λ p. p .low - t) (λ E. flux-of E .low - t) (λ p a. ap (λ l. l - t) (a .low)) in
           let same = same-figures (λ n. low-of calls n - t) (λ n. figure-of (λ E. flux-of E .low - t) (set-after calls n)) others (λ i l. each (set-after calls (nth others i))) in

@@ -21,9 +21,9 @@ abbrev pub low-of : List Call → ℕ → ℕ
 low-of calls number = figure-of (λ E. flux-of E .low) (set-after calls number)
 
 -- A figure of each pool of a list, summed.
-unfoldable pub sum-of : (ℕ → ℕ) → List ℕ → ℕ
-sum-of figure [] = 0
-sum-of figure (n ∷ ns) = figure n + sum-of figure ns
+unfoldable pub total-of : (ℕ → ℕ) → List ℕ → ℕ
+total-of figure [] = 0
+total-of figure (n ∷ ns) = figure n + total-of figure ns
 
 -- The number at a place of a list of pools.
 abbrev pub nth : List ℕ → ℕ → ℕ
@@ -33,7 +33,7 @@ nth pools i = getD pools i 0
 pub record Explains (calls : List Call) (limit : ℕ) (pools : List ℕ) : Type 0 where
   pub burning : (i : ℕ) → i < length pools → Burning calls (nth pools i)
   pub once : (i j : ℕ) → i < length pools → j < length pools → nth pools i ≡ nth pools j → i ≡ j
-  pub over : limit < sum-of (low-of calls) pools
+  pub over : limit < total-of (low-of calls) pools
 
 -- "Larger lows go in first, equal lows by smaller number"
 pub record Before (calls : List Call) (one other : ℕ) : Type 0 where
