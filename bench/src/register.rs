@@ -53,7 +53,7 @@ fn check_sum(count: u64, after_each: bool) -> u64 {
 }
 
 /// The check sum of `count` answers to which pools put it over, at limits from 0 to 199,800 W/m² in steps of 200, with the pools from 1 to 32
-/// alight.
+/// alight. Each number counts for every place from its own on.
 fn which_sum(count: u64) -> u64 {
     let mut register = Register::new();
     for k in 0..32 {
@@ -63,7 +63,7 @@ fn which_sum(count: u64) -> u64 {
     for n in 0..count {
         let (state, numbers) = register.which_pools(REQUESTS, n % 1000 * 200);
         total += u64::from(state) + numbers.len() as u64;
-        total += numbers.iter().map(|&number| u64::from(number)).sum::<u64>();
+        total += numbers.iter().zip((1..=32).rev()).map(|(&number, places)| places * u64::from(number)).sum::<u64>();
     }
     total
 }

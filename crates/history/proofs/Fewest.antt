@@ -12,23 +12,16 @@ use lib.ListN.{length}
 use borrow.Author.Tests.{eq-eqb, ne-eqb}
 use Rattle.chain.specs.declared.enquiry.Enquiry.{Enquiry}
 use Rattle.history.specs.History.{figure-of, over-numbers}
+use Rattle.history.proofs.Totals.{total-none, total-next}
 use Rattle.history.proofs.Afresh.{one-other}
 use Rattle.history.specs.WhichClaims.{total-of, nth}
 
-pub total-of-none : (figure : ℕ → ℕ) → total-of figure [] ≡ 0
-unfolding total-of
-total-of-none figure = refl
-
-pub total-of-next : (figure : ℕ → ℕ) (n : ℕ) (ns : List ℕ) → total-of figure (n ∷ ns) ≡ figure n + total-of figure ns
-unfolding total-of
-total-of-next figure n ns = refl
-
 -- The same figures have the same sum.
 pub same-figures : (f g : ℕ → ℕ) (ns : List ℕ) → ((i : ℕ) → i < length ns → f (nth ns i) ≡ g (nth ns i)) → total-of f ns ≡ total-of g ns
-same-figures f g [] same = total-of-none f ∙ sym (total-of-none g)
+same-figures f g [] same = total-none f ∙ sym (total-none g)
 same-figures f g (n ∷ ns) same =
     let rest = same-figures f g ns (λ i l. same (suc i) (omega arith)) in
-    omega (arith, total-of-next f n ns, total-of-next g n ns, same zero (omega arith), rest)
+    omega (arith, total-next f n ns, total-next g n ns, same zero (omega arith), rest)
 
 -- ---- at most the sum over all numbers
 -- The pools without that of a number.
@@ -60,17 +53,17 @@ later N n ns d =
 module _ (figure : Enquiry → ℕ) (N : ℕ) where
   pub sum-different :
       (pools : ℕ → Option Enquiry) (ns : List ℕ) → Numbers N ns → total-of (λ n. figure-of figure (pools n)) ns ≤ over-numbers figure pools N
-  sum-different pools [] d = omega (arith, total-of-none (λ n. figure-of figure (pools n)))
+  sum-different pools [] d = omega (arith, total-none (λ n. figure-of figure (pools n)))
   sum-different pools (n ∷ ns) d =
       let rest = sum-different (without n pools) ns (later N n ns d) in
       let same =
       same-figures (λ m. figure-of figure (pools m)) (λ m. figure-of figure (without n pools m)) ns
       (λ i l. ap (figure-of figure) (sym (without-other n pools (nth ns i) (λ e. omega (arith, d .once zero (suc i) (omega arith) (omega arith) e))))) in
       let all = one-other figure (without n pools) pools n (without-other n pools) N (d .least zero (omega arith)) (d .most zero (omega arith)) in
-      omega (arith, total-of-next (λ m. figure-of figure (pools m)) n ns, same, rest, all, ap (figure-of figure) (without-this n pools))
+      omega (arith, total-next (λ m. figure-of figure (pools m)) n ns, same, rest, all, ap (figure-of figure) (without-this n pools))
 
 -- ---- by what the figures have above t
 pub sum-above : (figure : ℕ → ℕ) (t : ℕ) (ns : List ℕ) → total-of figure ns ≤ length ns * t + total-of (λ n. figure n - t) ns
-sum-above figure t [] = omega (arith, total-of-none figure)
+sum-above figure t [] = omega (arith, total-none figure)
 sum-above figure t (n ∷ ns) =
-    omega (arith, total-of-next figure n ns, total-of-next (λ m. figure m - t) n ns, suc-mul (length ns) t, sum-above figure t ns)
+    omega (arith, total-next figure n ns, total-next (λ m. figure m - t) n ns, suc-mul (length ns) t, sum-above figure t ns)

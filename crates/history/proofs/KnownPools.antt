@@ -1,4 +1,4 @@
--- The burning pools in order as the calls have them, and the place of a pool that burns. From the claims of the register. Assumes nothing.
+-- The burning pools in order as the calls have them, and the place of a pool that burning-at. From the claims of the register. Assumes nothing.
 use mathlib.Core.Path.{_≡_, refl, sym, ap, _∙_}
 use mathlib.Core.Bool.{true≢false}
 use mathlib.Core.Option.{Option, none, some}
@@ -14,14 +14,14 @@ use Rattle.which.specs.WhichPools.{in-order}
 use Rattle.history.specs.History.{Call, after, is-lit, figure-of}
 use Rattle.history.specs.Claims.{Burns}
 use Rattle.history.specs.OrderClaims.{set-after}
-use Rattle.history.specs.WhichClaims.{Burning, low-of}
+use Rattle.history.specs.WhichClaims.{Burning, low-after}
 use Rattle.history.proofs.Claims.{claims}
 use Rattle.history.proofs.Ranked.{Each, each-by-place, each-in-order}
 
 -- A pool in the register as the calls have it.
 pub record Known (calls : List Call) (p : BurningPool) : Type 0 where
   pub burning : Burning calls (p .number)
-  pub low : low-of calls (p .number) ≡ p .low
+  pub low : low-after calls (p .number) ≡ p .low
 
 module _ (calls : List Call) where
   abbrev ps : List BurningPool
@@ -39,9 +39,9 @@ module _ (calls : List Call) where
   pub known : Each (Known calls) (in-order ps)
   known = each-in-order (Known calls) ps (each-by-place (λ p. (p .number ≡ 0 → ⊥) → Known calls p) ps known-at-place)
 
-  -- A pool that burns, with its enquiry and its place.
-  pub burns : (number : ℕ) → Burning calls number → (E : Enquiry) × Burns (after calls) number E
-  burns number b = by-pool (set-after calls number) refl
+  -- A pool that burning-at, with its enquiry and its place.
+  pub burning-at : (number : ℕ) → Burning calls number → (E : Enquiry) × Burns (after calls) number E
+  burning-at number b = by-pool (set-after calls number) refl
     where
       by-pool : (o : Option Enquiry) → set-after calls number ≡ o → (E : Enquiry) × Burns (after calls) number E
       by-pool none e = absurd (true≢false (sym b ∙ ap is-lit e))

@@ -6,6 +6,7 @@ pub mod Due
 pub mod Claims
 pub mod Sets
 pub mod OrderClaims
+pub mod Totals
 pub mod Ranked
 pub mod KnownPools
 pub mod SamePools
@@ -15,3 +16,4 @@ pub mod WhichClaims
 pub mod Returned
 pub mod Examples
 pub mod OrderExamples
+pub mod WhichExamples

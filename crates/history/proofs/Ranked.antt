@@ -110,16 +110,16 @@ ranked-put-in p =
     let first = stays-leads p q (a .0) b in
     ((first, each-map (Leads q) (Leads p) (λ s h. leads-after p q s first h) qs (r .0)), r))
 
-apart : (p : BurningPool) (ps : List BurningPool) → has (p .number) ps ≡ false → Each (Other p) ps
-apart p [] h = tt
-apart p (q ∷ qs) h = (λ e. not-here (p .number) q qs h (sym e), apart p qs (not-later (p .number) q qs h))
+all-other : (p : BurningPool) (ps : List BurningPool) → has (p .number) ps ≡ false → Each (Other p) ps
+all-other p [] h = tt
+all-other p (q ∷ qs) h = (λ e. not-here (p .number) q qs h (sym e), all-other p qs (not-later (p .number) q qs h))
 
 pub ranked : (ps : List BurningPool) → Sound ps → Ranked (in-order ps)
 ranked =
     by-number 0 (λ ps. Sound ps → Ranked (in-order ps)) (λ s. subst Ranked (sym in-order-none) tt)
     (λ p ps e rest s. subst Ranked (sym (in-order-vacant p ps e)) (rest (s .1)))
     (λ p ps e rest s.
-    let others = each-in-order (Other p) ps (each-map (Other p) (λ q. (q .number ≡ 0 → ⊥) → Other p q) (λ q h k. h) ps (apart p ps (s .0 e .new))) in
+    let others = each-in-order (Other p) ps (each-map (Other p) (λ q. (q .number ≡ 0 → ⊥) → Other p q) (λ q h k. h) ps (all-other p ps (s .0 e .new))) in
     subst Ranked (sym (in-order-burning p ps e)) (ranked-put-in p (in-order ps) others (rest (s .1))))
 
 pub ranked-at : (ps : List BurningPool) → Ranked ps → (i j : ℕ) → i < j → j < length ps → Leads (pool-at ps i) (pool-at ps j)

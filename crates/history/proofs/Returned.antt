@@ -19,7 +19,7 @@ use Rattle.which.specs.WhichPools.{which-of}
 use Rattle.history.specs.History.{Call, Light, PutOut, called, after, history, afresh, due}
 use Rattle.history.specs.Claims.{Burns}
 use Rattle.history.specs.OrderClaims.{set-after, SameSetAndSums, SamePoolsAndSums, Crossing}
-use Rattle.history.specs.WhichClaims.{Explains, pools-of, pools-given}
+use Rattle.history.specs.WhichClaims.{Burning, nth, Explains, GoesBefore, listed}
 use Rattle.history.proofs.Claims.{claims}
 use Rattle.history.proofs.OrderClaims.{order-claims}
 use Rattle.history.proofs.WhichClaims.{which-claims}
@@ -106,17 +106,47 @@ module _ (calls : List Call) (r : Register) (reached : r ≡ after calls) where
       by-pool (some F) e = absurd (out F (subst (λ R. Burns R number F) (sym reached) (claims .lit calls number F e)))
 
 -- ---- which pools put it over
--- t is what `sums` returns, and w what `which_pools` returns
+-- w is what `which_pools` returns
 module _ (calls : List Call) (r : Register) (reached : r ≡ after calls) (limit : ℕ) (w : FewestPools) (is : w ≡ which-of r limit) where
-  pub returned-pools : pools-of w ≡ pools-given calls limit
-  returned-pools = ap pools-of (is ∙ ap (λ R. which-of R limit) reached)
+  -- What holds of the answer after the calls holds of w.
+  held : (P : FewestPools → Type 0) → P (which-of (after calls) limit) → P w
+  held P = subst P (sym (is ∙ ap (λ R. which-of R limit) reached))
 
-  pub returned-explains : (t : Totals) → t ≡ sums-of r → limit < t .lows → Explains calls limit (pools-of w)
-  returned-explains t e over =
-      subst (Explains calls limit) (sym returned-pools)
-      (which-claims .explains calls limit (subst (λ (u : Totals). limit < u .lows) (e ∙ ap sums-of reached) over))
+  pub returned-fewest : (others : List ℕ) → Explains calls limit others → length (listed w) ≤ length others
+  returned-fewest others x = held (λ v. length (listed v) ≤ length others) (which-claims .fewest calls limit others x)
 
-  pub returned-fewest : (others : List ℕ) → Explains calls limit others → w .count ≤ length others
-  returned-fewest others x =
-      subst (λ n. n ≤ length others) (ap length (sym returned-pools) ∙ ap (λ (v : FewestPools). length (pools-of v)) is ∙ which-claims .size r limit ∙ ap (λ (v : FewestPools). v .count) (sym is))
-      (which-claims .fewest calls limit others x)
+  pub returned-ranked : (i j : ℕ) → i < j → j < length (listed w) → GoesBefore calls (nth (listed w) i) (nth (listed w) j)
+  returned-ranked i j l =
+      held (λ v. j < length (listed v) → GoesBefore calls (nth (listed v) i) (nth (listed v) j)) (which-claims .ranked calls limit i j l)
+
+  pub returned-left-out :
+      (number : ℕ) → Burning calls number → ((i : ℕ) → i < length (listed w) → nth (listed w) i ≡ number → ⊥)
+      → (i : ℕ) → i < length (listed w) → GoesBefore calls (nth (listed w) i) number
+  returned-left-out number b =
+      held (λ v. ((i : ℕ) → i < length (listed v) → nth (listed v) i ≡ number → ⊥) → (i : ℕ) → i < length (listed v) → GoesBefore calls (nth (listed v) i) number)
+      (which-claims .left-out calls limit number b)
+
+  -- t is what `sums` returns
+  module _ (t : Totals) (e : t ≡ sums-of r) where
+    pub returned-explains : limit < t .lows → Explains calls limit (listed w)
+    returned-explains over =
+        held (λ v. Explains calls limit (listed v))
+        (which-claims .explains calls limit (subst (λ (u : Totals). limit < u .lows) (e ∙ ap sums-of reached) over))
+
+    pub returned-when-over : limit < t .lows → w .state ≡ 0
+    returned-when-over over = ap (λ (v : FewestPools). v .state) is ∙ which-claims .when-over r limit (subst (λ (u : Totals). limit < u .lows) e over)
+
+    pub returned-not-over : t .lows ≤ limit → w .state ≡ 55
+    returned-not-over under = ap (λ (v : FewestPools). v .state) is ∙ which-claims .not-over r limit (subst (λ (u : Totals). u .lows ≤ limit) e under)
+
+  pub returned-empty-set : w .state ≡ 55 → w .count ≡ 0
+  returned-empty-set = held (λ v. v .state ≡ 55 → v .count ≡ 0) (which-claims .empty-set (after calls) limit)
+
+  pub returned-counted : (i : ℕ) → i < w .count → 1 ≤ nth (w .numbers) i
+  returned-counted i = held (λ v. i < v .count → 1 ≤ nth (v .numbers) i) (which-claims .counted (after calls) limit i)
+
+  pub returned-past-the-count : (i : ℕ) → w .count ≤ i → nth (w .numbers) i ≡ 0
+  returned-past-the-count i = held (λ v. v .count ≤ i → nth (v .numbers) i ≡ 0) (which-claims .past-the-count (after calls) limit i)
+
+  pub returned-size : length (listed w) ≡ w .count
+  returned-size = held (λ v. length (listed v) ≡ v .count) (which-claims .size (after calls) limit)

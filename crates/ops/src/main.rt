@@ -1,6 +1,7 @@
 // Reads lines, each a name and its numbers, and prints what is answered: the state (0, or the number of the refusal), for a stand-off the
 // distance in decimetres, for a free place its row and place, for a call on the register how many pools burn, the two ends or sums, and for
-// an enquiry the note. A line that cannot be read prints `unreadable`. The register is empty at the start and goes from line to line.
+// an enquiry the note. Which pools put it over: the state, how many they are, and their numbers. A line that cannot be read prints
+// `unreadable`. The register is empty at the start and goes from line to line.
 mod call;
 mod enquiry;
 mod from_limit;
@@ -17,6 +18,7 @@ use chain::flux::number;
 use check::same;
 use libc::STDIN_FILENO;
 use libc::STDOUT_FILENO;
+use line::Numbers;
 use line::numbers_in;
 use line::place_of;
 use pairs::answer::Answer;
@@ -160,7 +162,7 @@ fn print_reply(r: Reply) {
     io::write_all(STDOUT_FILENO, b"\n");
 }
 
-// The state, how many pools, and their numbers; 55 of document 02.
+// 55 of document 02.
 fn print_fewest(w: FewestPools) {
     io::print_decimal(STDOUT_FILENO, w.state as u64);
     print_after_blank(w.count as u64);
@@ -170,6 +172,15 @@ fn print_fewest(w: FewestPools) {
         i += 1;
     }
     io::write_all(STDOUT_FILENO, b"\n");
+}
+
+// A line `which LIMIT`. Its answer is no reply, since an enum must not hold an array.
+fn answer_which(r: Register, ns: Numbers) {
+    if !has_shape(ns, b"w") {
+        print_reply(Reply::Unreadable);
+        return;
+    }
+    print_fewest(which_pools(r, word_at(ns, 0)));
 }
 
 fn print_and_keep(answered: ReplyAndRegister) -> Register {
@@ -188,8 +199,8 @@ fn answer_line(line: &[u8], r: Register) -> Register {
     if same(&line[0..end], b"out") {
         return print_and_keep(out_of(r, ns));
     }
-    if same(&line[0..end], b"which") && has_shape(ns, b"w") {
-        print_fewest(which_pools(r, word_at(ns, 0)));
+    if same(&line[0..end], b"which") {
+        answer_which(r, ns);
         return r;
     }
     print_reply(called(&line[0..end], ns));

@@ -1,19 +1,19 @@
 // Runs one operation on pairs many times over a fixed random sequence, and prints the check sum of all its ends; or calls the register many
-// times, and prints the check sum of what it answers. The first argument names the operation, the second says how many times. With no
-// arguments each is run 1,000 times.
-mod limits;
+// times, or asks it which pools put it over, and prints the check sum of what is answered. The first argument names the operation, the second
+// says how many times. With no arguments each is run 1,000 times.
 mod register_calls;
 mod sequence;
+mod which_calls;
 
 use check::same;
 use libc::STDOUT_FILENO;
-use limits::which_sum;
 use pairs::answer::Answer;
 use pairs::answer::Pair;
 use register_calls::calls_sum;
 use sequence::ends;
 use sequence::pair_at;
 use std::num::wrapping_add_u64;
+use which_calls::which_sum;
 
 enum Operation {
     Product,

@@ -1,8 +1,8 @@
 -- `which_sum` is safe and ends. The measure is how many limits are still to be asked. Assumes nothing.
 use borrow.Author.Needs.{needs}
 use Prim.Native.Nat.{_-_}
-use Rattle.speed.proofs.limits.which_sum.Statement.{statement}
-use Rattle.speed.proofs.limits.which_sum.Tie as tie
+use Rattle.speed.proofs.which_calls.which_sum.Statement.{statement}
+use Rattle.speed.proofs.which_calls.which_sum.Tie as tie
 
 abbrev Inv-loop : tie.InvT-loop
 Inv-loop count register total₀ n₀ total n = Unit {0}

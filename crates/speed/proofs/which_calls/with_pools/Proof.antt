@@ -1,14 +1,14 @@
 -- `with_pools` is safe and ends. The measure is how many numbers are still to come. Assumes nothing.
 use borrow.Author.Needs.{needs}
 use Prim.Native.Nat.{_-_}
-use Rattle.speed.proofs.limits.with_pools.Statement.{statement}
-use Rattle.speed.proofs.limits.with_pools.Tie as tie
+use Rattle.speed.proofs.which_calls.with_pools.Statement.{statement}
+use Rattle.speed.proofs.which_calls.with_pools.Tie as tie
 
 abbrev Inv-loop : tie.InvT-loop
-Inv-loop total w sum₀ i₀ sum i = Unit {0}
+Inv-loop total w sum₀ so-far₀ i₀ sum so-far i = Unit {0}
 
 abbrev μ-loop : tie.MeasureT-loop
-μ-loop total w sum₀ i₀ sum i = 32 - i
+μ-loop total w sum₀ so-far₀ i₀ sum so-far i = 32 - i
 
 cast-wrapping-add-u64 : tie.Need-cast-wrapping-add-u64 Inv-loop μ-loop
 cast-wrapping-add-u64 c = search needs
@@ -33,6 +33,9 @@ cast-wrapping-add-u64-3 c = search needs
 
 wrapping-add-u64-requires-3 : tie.Need-wrapping-add-u64-requires-3 Inv-loop μ-loop
 wrapping-add-u64-requires-3 c κs = search needs
+
+wrapping-add-u64-requires-4 : tie.Need-wrapping-add-u64-requires-4 Inv-loop μ-loop
+wrapping-add-u64-requires-4 c κs = search needs
 
 add-i : tie.Need-add-i Inv-loop μ-loop
 add-i c = search needs
@@ -60,6 +63,7 @@ with-pools-spec =
     element-copy-out-wrapping-add-u64
     cast-wrapping-add-u64-3
     wrapping-add-u64-requires-3
+    wrapping-add-u64-requires-4
     add-i
     loop-less
     loop-again

@@ -17,12 +17,14 @@ fn alight() -> Register {
     register
 }
 
-// The check sum with the state, the count and every number.
+// The check sum with the state, the count and, for each place, the sum of the numbers up to it.
 fn with_pools(total: u64, w: FewestPools) -> u64 {
     let mut sum = wrapping_add_u64(total, w.state as u64);
     sum = wrapping_add_u64(sum, w.count as u64);
+    let mut so_far: u64 = 0;
     for i in 0..32 {
-        sum = wrapping_add_u64(sum, w.numbers[i] as u64);
+        so_far = wrapping_add_u64(so_far, w.numbers[i] as u64);
+        sum = wrapping_add_u64(sum, so_far);
     }
     sum
 }

@@ -1,8 +1,8 @@
 -- `alight` is safe and ends. The measure is how many pools are still to be lit. Assumes nothing.
 use borrow.Author.Needs.{needs}
 use Prim.Native.Nat.{_-_}
-use Rattle.speed.proofs.limits.alight.Statement.{statement}
-use Rattle.speed.proofs.limits.alight.Tie as tie
+use Rattle.speed.proofs.which_calls.alight.Statement.{statement}
+use Rattle.speed.proofs.which_calls.alight.Tie as tie
 
 abbrev Inv-loop : tie.InvT-loop
 Inv-loop register₀ k₀ register k = Unit {0}
