@@ -12,7 +12,7 @@ use lib.ListN.{length}
 use borrow.Author.Tests.{eq-eqb, ne-eqb}
 use Rattle.chain.specs.declared.enquiry.Enquiry.{Enquiry}
 use Rattle.history.specs.History.{figure-of, over-numbers}
-use Rattle.history.proofs.Totals.{total-none, total-next}
+use Rattle.history.proofs.Total.{total-none, total-next}
 use Rattle.history.proofs.Afresh.{one-other}
 use Rattle.history.specs.WhichClaims.{total-of, nth}
 

@@ -1,4 +1,4 @@
--- The burning pools in order as the calls have them, and the place of a pool that burning-at. From the claims of the register. Assumes nothing.
+-- The burning pools in order as the calls have them, and the place of a pool that burns. From the claims of the register. Assumes nothing.
 use mathlib.Core.Path.{_≡_, refl, sym, ap, _∙_}
 use mathlib.Core.Bool.{true≢false}
 use mathlib.Core.Option.{Option, none, some}
@@ -39,7 +39,7 @@ module _ (calls : List Call) where
   pub known : Each (Known calls) (in-order ps)
   known = each-in-order (Known calls) ps (each-by-place (λ p. (p .number ≡ 0 → ⊥) → Known calls p) ps known-at-place)
 
-  -- A pool that burning-at, with its enquiry and its place.
+  -- A pool that burns, with its enquiry and its place.
   pub burning-at : (number : ℕ) → Burning calls number → (E : Enquiry) × Burns (after calls) number E
   burning-at number b = by-pool (set-after calls number) refl
     where

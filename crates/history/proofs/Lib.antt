@@ -6,7 +6,7 @@ pub mod Due
 pub mod Claims
 pub mod Sets
 pub mod OrderClaims
-pub mod Totals
+pub mod Total
 pub mod Ranked
 pub mod KnownPools
 pub mod SamePools

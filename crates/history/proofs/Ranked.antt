@@ -1,5 +1,5 @@
--- The burning pools in order: each leads all after it, where no number burns twice; and what holds of every burning pool holds of each of
--- them, and the other way round. By induction over the places. Assumes nothing.
+-- The burning pools of sound places in order: each leads all after it; and what holds of every burning pool holds of each of them, and the
+-- other way round. By induction over the places. Assumes nothing.
 use mathlib.Core.Path.{_≡_, sym, subst, _∙_}
 use mathlib.Core.Bool.{true, false}
 use mathlib.Core.List.{List, [], _∷_}

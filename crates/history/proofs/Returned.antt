@@ -107,32 +107,9 @@ module _ (calls : List Call) (r : Register) (reached : r ≡ after calls) where
 
 -- ---- which pools put it over
 -- w is what `which_pools` returns
-module _ (calls : List Call) (r : Register) (reached : r ≡ after calls) (limit : ℕ) (w : FewestPools) (is : w ≡ which-of r limit) where
-  -- What holds of the answer after the calls holds of w.
-  held : (P : FewestPools → Type 0) → P (which-of (after calls) limit) → P w
-  held P = subst P (sym (is ∙ ap (λ R. which-of R limit) reached))
-
-  pub returned-fewest : (others : List ℕ) → Explains calls limit others → length (listed w) ≤ length others
-  returned-fewest others x = held (λ v. length (listed v) ≤ length others) (which-claims .fewest calls limit others x)
-
-  pub returned-ranked : (i j : ℕ) → i < j → j < length (listed w) → GoesBefore calls (nth (listed w) i) (nth (listed w) j)
-  returned-ranked i j l =
-      held (λ v. j < length (listed v) → GoesBefore calls (nth (listed v) i) (nth (listed v) j)) (which-claims .ranked calls limit i j l)
-
-  pub returned-left-out :
-      (number : ℕ) → Burning calls number → ((i : ℕ) → i < length (listed w) → nth (listed w) i ≡ number → ⊥)
-      → (i : ℕ) → i < length (listed w) → GoesBefore calls (nth (listed w) i) number
-  returned-left-out number b =
-      held (λ v. ((i : ℕ) → i < length (listed v) → nth (listed v) i ≡ number → ⊥) → (i : ℕ) → i < length (listed v) → GoesBefore calls (nth (listed v) i) number)
-      (which-claims .left-out calls limit number b)
-
-  -- t is what `sums` returns
+module _ (r : Register) (limit : ℕ) (w : FewestPools) (is : w ≡ which-of r limit) where
+  -- of any register; t is what `sums` returns
   module _ (t : Totals) (e : t ≡ sums-of r) where
-    pub returned-explains : limit < t .lows → Explains calls limit (listed w)
-    returned-explains over =
-        held (λ v. Explains calls limit (listed v))
-        (which-claims .explains calls limit (subst (λ (u : Totals). limit < u .lows) (e ∙ ap sums-of reached) over))
-
     pub returned-when-over : limit < t .lows → w .state ≡ 0
     returned-when-over over = ap (λ (v : FewestPools). v .state) is ∙ which-claims .when-over r limit (subst (λ (u : Totals). limit < u .lows) e over)
 
@@ -140,13 +117,48 @@ module _ (calls : List Call) (r : Register) (reached : r ≡ after calls) (limit
     returned-not-over under = ap (λ (v : FewestPools). v .state) is ∙ which-claims .not-over r limit (subst (λ (u : Totals). u .lows ≤ limit) e under)
 
   pub returned-empty-set : w .state ≡ 55 → w .count ≡ 0
-  returned-empty-set = held (λ v. v .state ≡ 55 → v .count ≡ 0) (which-claims .empty-set (after calls) limit)
+  returned-empty-set = subst (λ (v : FewestPools). v .state ≡ 55 → v .count ≡ 0) (sym is) (which-claims .empty-set r limit)
 
   pub returned-counted : (i : ℕ) → i < w .count → 1 ≤ nth (w .numbers) i
-  returned-counted i = held (λ v. i < v .count → 1 ≤ nth (v .numbers) i) (which-claims .counted (after calls) limit i)
+  returned-counted i = subst (λ (v : FewestPools). i < v .count → 1 ≤ nth (v .numbers) i) (sym is) (which-claims .counted r limit i)
 
   pub returned-past-the-count : (i : ℕ) → w .count ≤ i → nth (w .numbers) i ≡ 0
-  returned-past-the-count i = held (λ v. v .count ≤ i → nth (v .numbers) i ≡ 0) (which-claims .past-the-count (after calls) limit i)
+  returned-past-the-count i = subst (λ (v : FewestPools). v .count ≤ i → nth (v .numbers) i ≡ 0) (sym is) (which-claims .past-the-count r limit i)
+
+  pub returned-thirty-two : length (r .places) ≡ 32 → length (w .numbers) ≡ 32
+  returned-thirty-two long = ap (λ (v : FewestPools). length (v .numbers)) is ∙ which-claims .thirty-two r limit long
 
   pub returned-size : length (listed w) ≡ w .count
-  returned-size = held (λ v. length (listed v) ≡ v .count) (which-claims .size (after calls) limit)
+  returned-size = subst (λ v. length (listed v) ≡ v .count) (sym is) (which-claims .size r limit)
+
+  -- of the register after the calls
+  module _ (calls : List Call) (reached : r ≡ after calls) where
+    after-calls : w ≡ which-of (after calls) limit
+    after-calls = is ∙ ap (λ R. which-of R limit) reached
+
+    pub returned-explains : (t : Totals) → t ≡ sums-of r → limit < t .lows → Explains calls limit (listed w)
+    returned-explains t e over =
+        subst (λ v. Explains calls limit (listed v)) (sym after-calls)
+        (which-claims .explains calls limit (subst (λ (u : Totals). limit < u .lows) (e ∙ ap sums-of reached) over))
+
+    pub returned-fewest : (others : List ℕ) → Explains calls limit others → length (listed w) ≤ length others
+    returned-fewest others x = subst (λ v. length (listed v) ≤ length others) (sym after-calls) (which-claims .fewest calls limit others x)
+
+    pub returned-ranked : (i j : ℕ) → i < j → j < length (listed w) → GoesBefore calls (nth (listed w) i) (nth (listed w) j)
+    returned-ranked i j l =
+        subst (λ v. j < length (listed v) → GoesBefore calls (nth (listed v) i) (nth (listed v) j)) (sym after-calls) (which-claims .ranked calls limit i j l)
+
+    pub returned-left-out :
+        (number : ℕ) → Burning calls number → ((i : ℕ) → i < length (listed w) → nth (listed w) i ≡ number → ⊥)
+        → (i : ℕ) → i < length (listed w) → GoesBefore calls (nth (listed w) i) number
+    returned-left-out number b =
+        subst
+        (λ v. ((i : ℕ) → i < length (listed v) → nth (listed v) i ≡ number → ⊥) → (i : ℕ) → i < length (listed v) → GoesBefore calls (nth (listed v) i) number)
+        (sym after-calls) (which-claims .left-out calls limit number b)
+
+-- w and v are what `which_pools` returns of two registers in which the same pools burn
+pub returned-same-answer :
+    (these those : List Call) → ((number : ℕ) → set-after these number ≡ set-after those number) → (r s : Register) → r ≡ after these → s ≡ after those
+    → (limit : ℕ) (w v : FewestPools) → w ≡ which-of r limit → v ≡ which-of s limit → w ≡ v
+returned-same-answer these those same r s reached reached-too limit w v is is-too =
+    is ∙ ap (λ R. which-of R limit) reached ∙ which-claims .same-answer these those limit same ∙ sym (is-too ∙ ap (λ R. which-of R limit) reached-too)

@@ -1,5 +1,5 @@
--- Two lists of calls after which the same pools burn have the same pools in order, at whatever places they stand, and so give the same answer.
--- Assumes nothing.
+-- Two ranked lists of the same pools are the same, head by head. So after two lists of calls after which the same pools burn the pools in order
+-- are the same, at whatever places they stand. Assumes nothing.
 use mathlib.Core.Path.{_≡_, refl, sym, ap, _∙_}
 use mathlib.Core.Logic.{_⊎_, inl, inr, ⊎-elim}
 use mathlib.Core.List.{List, [], _∷_}
@@ -24,27 +24,27 @@ use Rattle.history.proofs.Ranked.{Each, each-at, each-by-place, each-bu
 use Rattle.history.proofs.KnownPools.{Known, known-at-place, known, burning-at}
 
 -- Pools of the same number and low, one such among pools, and lists of such.
-record SamePool (p q : BurningPool) : Type 0 where
+record SameNumberAndLow (p q : BurningPool) : Type 0 where
   number : p .number ≡ q .number
   low : p .low ≡ q .low
 
 abbrev Among : List BurningPool → BurningPool → Type 0
 Among [] p = ⊥
-Among (q ∷ qs) p = SamePool p q ⊎ Among qs p
+Among (q ∷ qs) p = SameNumberAndLow p q ⊎ Among qs p
 
 abbrev AllSame : List BurningPool → List BurningPool → Type 0
 AllSame [] [] = Unit
 AllSame [] (q ∷ qs) = ⊥
 AllSame (p ∷ ps) [] = ⊥
-AllSame (p ∷ ps) (q ∷ qs) = SamePool p q × AllSame ps qs
+AllSame (p ∷ ps) (q ∷ qs) = SameNumberAndLow p q × AllSame ps qs
 
-same-after : (p q r : BurningPool) → SamePool p q → SamePool q r → SamePool p r
+same-after : (p q r : BurningPool) → SameNumberAndLow p q → SameNumberAndLow q r → SameNumberAndLow p r
 same-after p q r a b = record { number = a .number ∙ b .number; low = a .low ∙ b .low }
 
-back : (p q : BurningPool) → SamePool p q → SamePool q p
+back : (p q : BurningPool) → SameNumberAndLow p q → SameNumberAndLow q p
 back p q a = record { number = sym (a .number); low = sym (a .low) }
 
-among-alike : (ps : List BurningPool) (p q : BurningPool) → SamePool p q → Among ps q → Among ps p
+among-alike : (ps : List BurningPool) (p q : BurningPool) → SameNumberAndLow p q → Among ps q → Among ps p
 among-alike [] p q a m = m
 among-alike (r ∷ rs) p q a (inl b) = inl (same-after p q r a b)
 among-alike (r ∷ rs) p q a (inr m) = inr (among-alike rs p q a m)
@@ -55,7 +55,7 @@ among-at (p ∷ ps) zero l = inl (record { number = refl; low = refl })
 among-at (p ∷ ps) (suc i) l = inr (among-at ps i (omega arith))
 
 -- ---- a pool that leads all of a list has no pool alike in it
-none-alike : (p q : BurningPool) (ps : List BurningPool) → Each (Leads p) ps → SamePool p q → Among ps q → ⊥
+none-alike : (p q : BurningPool) (ps : List BurningPool) → Each (Leads p) ps → SameNumberAndLow p q → Among ps q → ⊥
 none-alike p q [] e a m = m
 none-alike p q (r ∷ rs) e a (inl b) =
     omega (arith, e .0 .number (a .low ∙ b .low), a .number, b .number)
@@ -68,7 +68,7 @@ leads-among p q (r ∷ rs) e (inl b) =
 leads-among p q (r ∷ rs) e (inr m) = leads-among p q rs (e .1) m
 
 -- ---- ranked lists of the same pools
-heads : (p q : BurningPool) (ps qs : List BurningPool) → Ranked (p ∷ ps) → Ranked (q ∷ qs) → Among (q ∷ qs) p → Among (p ∷ ps) q → SamePool p q
+heads : (p q : BurningPool) (ps qs : List BurningPool) → Ranked (p ∷ ps) → Ranked (q ∷ qs) → Among (q ∷ qs) p → Among (p ∷ ps) q → SameNumberAndLow p q
 heads p q ps qs r s (inl a) n = a
 heads p q ps qs r s (inr m) (inl a) = back q p a
 heads p q ps qs r s (inr m) (inr n) =
@@ -77,7 +77,7 @@ heads p q ps qs r s (inr m) (inr n) =
     absurd (omega (arith, one .low, other .low, one .number (omega (arith, one .low, other .low)), other .number (omega (arith, one .low, other .low))))
 
 -- Without the first pool of each.
-rest : (p q : BurningPool) (ps qs : List BurningPool) → SamePool p q → Each (Leads p) ps → Each (Among (q ∷ qs)) ps → Each (Among qs) ps
+rest : (p q : BurningPool) (ps qs : List BurningPool) → SameNumberAndLow p q → Each (Leads p) ps → Each (Among (q ∷ qs)) ps → Each (Among qs) ps
 rest p q ps qs a e m = each-by-place (Among qs) ps at
   where
     at : (i : ℕ) → i < length ps → Among qs (pool-at ps i)
@@ -112,8 +112,8 @@ until-alike limit sum (p ∷ ps) (q ∷ qs) a =
 abbrev pools : List Call → List BurningPool
 pools calls = in-order (after calls .places)
 
-within : (these those : List Call) → ((n : ℕ) → set-after these n ≡ set-after those n) → Each (Among (pools those)) (pools these)
-within these those same = each-map (Known these) (Among (pools those)) found (pools these) (known these)
+each-among : (these those : List Call) → ((n : ℕ) → set-after these n ≡ set-after those n) → Each (Among (pools those)) (pools these)
+each-among these those same = each-map (Known these) (Among (pools those)) found (pools these) (known these)
   where
     there : Each (λ q. (q .number ≡ 0 → ⊥) → Among (pools those) q) (after those .places)
     there = each-burning (Among (pools those)) (after those .places) (each-by-place (Among (pools those)) (pools those) (among-at (pools those)))
@@ -139,4 +139,4 @@ pub same-given :
 same-given these those same limit =
     until-alike limit 0 (pools these) (pools those)
     (all-alike (pools these) (pools those) (ranked (after these .places) (follows these .sound)) (ranked (after those .places) (follows those .sound))
-    (within these those same) (within those these (λ n. sym (same n))))
+    (each-among these those same) (each-among those these (λ n. sym (same n))))

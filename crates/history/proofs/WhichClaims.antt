@@ -25,7 +25,7 @@ use Rattle.register.proofs.FirstPlace.{most-burn}
 use Rattle.which.proofs.UntilOver.{not-over, is-over, by-answer}
 use Rattle.history.proofs.Follows.{follows}
 use Rattle.history.proofs.Claims.{claims, sum-afresh}
-use Rattle.history.proofs.Totals.{total-in-order, total-length}
+use Rattle.history.proofs.Total.{total-in-order, total-length}
 use Rattle.history.proofs.Ranked.{Each, each-at, each-by-place, each-in-order, each-burning, each-map, Leads, ranked, ranked-at}
 use Rattle.history.proofs.PoolsGiven.{until-at, until-among, until-sum, Last, last}
 use Rattle.history.proofs.KnownPools.{Known, known, burning-at}
@@ -38,8 +38,8 @@ module _ (state : ℕ) (ns : List ℕ) where
   listed-is : listed (in-32-places state ns) ≡ ns
   listed-is = take-append-seam ns (replicate (32 - length ns) 0)
 
-  at-place : (i : ℕ) → i < length ns → nth (in-32-places state ns .numbers) i ≡ nth ns i
-  at-place i l = List·getD-append ns (replicate (32 - length ns) 0) 0 i l
+  nth-in-places : (i : ℕ) → i < length ns → nth (in-32-places state ns .numbers) i ≡ nth ns i
+  nth-in-places i l = List·getD-append ns (replicate (32 - length ns) 0) 0 i l
 
   all-places : length ns ≤ 32 → length (in-32-places state ns .numbers) ≡ 32
   all-places l = omega (arith, l, length-append ns (replicate (32 - length ns) 0), length-replicate {A = ℕ} (32 - length ns) 0)
@@ -59,25 +59,25 @@ module _ (state : ℕ) (ns : List ℕ) where
 
 -- ---- every register
 module _ (R : Register) (limit : ℕ) where
-  abbrev burning : List BurningPool
-  burning = in-order (R .places)
+  abbrev all-burning : List BurningPool
+  all-burning = in-order (R .places)
 
   abbrev taken : List ℕ
-  taken = until-over limit 0 burning
+  taken = until-over limit 0 all-burning
 
   thirty-two : length (R .places) ≡ 32 → length (which-of R limit .numbers) ≡ 32
   thirty-two long =
       by-answer R limit (λ w. length (w .numbers) ≡ 32) (λ l. refl)
-      (λ l. all-places 0 taken (omega (arith, until-among limit 0 burning, total-length burning, total-in-order (λ p. 1) (R .places), most-burn (R .places), long)))
+      (λ l. all-places 0 taken (omega (arith, until-among limit 0 all-burning, total-length all-burning, total-in-order (λ p. 1) (R .places), most-burn (R .places), long)))
 
   counted : (i : ℕ) → i < which-of R limit .count → 1 ≤ nth (which-of R limit .numbers) i
   counted i =
       by-answer R limit (λ w. i < w .count → 1 ≤ nth (w .numbers) i) (λ o l. absurd (omega arith))
       (λ o l.
-      let least = each-at (λ p. 1 ≤ p .number) burning each-burns i (omega (arith, l, until-among limit 0 burning)) in
-      omega (arith, at-place 0 taken i l, until-at limit 0 burning i l, least))
+      let least = each-at (λ p. 1 ≤ p .number) all-burning each-burns i (omega (arith, l, until-among limit 0 all-burning)) in
+      omega (arith, nth-in-places 0 taken i l, until-at limit 0 all-burning i l, least))
     where
-      each-burns : Each (λ p. 1 ≤ p .number) burning
+      each-burns : Each (λ p. 1 ≤ p .number) all-burning
       each-burns =
           each-in-order (λ p. 1 ≤ p .number) (R .places)
           (each-by-place (λ p. (p .number ≡ 0 → ⊥) → 1 ≤ p .number) (R .places) (λ i l e. omega (arith, e)))
@@ -126,8 +126,8 @@ module _ (calls : List Call) where
         subst (GoesBefore calls (nth ns i)) (sym (at j h))
         (subst (λ n. GoesBefore calls n (pool-at pools j .number)) (sym (at i (omega arith))) (before-at i j l (among j h)))
 
-    lows-over : limit < sums-of (after calls) .lows → limit < 0 + total-of (λ p. p .low) pools
-    lows-over o = omega (arith, o, total-in-order (λ p. p .low) ps)
+    total-over : limit < sums-of (after calls) .lows → limit < 0 + total-of (λ p. p .low) pools
+    total-over o = omega (arith, o, total-in-order (λ p. p .low) ps)
 
     explained : limit < sums-of (after calls) .lows → Explains calls limit ns
     explained o =
@@ -136,7 +136,7 @@ module _ (calls : List Call) where
           once = once;
           lows-over =
               let lows = each-map (Known calls) (λ p. low-after calls (p .number) ≡ p .low) (λ p k. k .low) pools (known calls) in
-              omega (arith, until-sum limit (low-after calls) 0 pools lows (lows-over o));
+              omega (arith, until-sum limit (low-after calls) 0 pools lows (total-over o));
         }
       where
         apart : (i j : ℕ) → i < j → j < length ns → nth ns i ≡ nth ns j → ⊥
@@ -175,7 +175,7 @@ module _ (calls : List Call) where
 
       no-fewer : length ns ≤ length others
       no-fewer =
-          let a : Last limit 0 pools (length ns) = last limit 0 pools (ranked ps (follows calls .sound)) (omega arith) (lows-over o) in
+          let a : Last limit 0 pools (length ns) = last limit 0 pools (ranked ps (follows calls .sound)) (omega arith) (total-over o) in
           let t = a .t in
           let less : length ns * t < suc (length others) * t =
           omega (arith, a .fits, x .lows-over, sum-above (low-after calls) t others, above t, suc-mul (length others) t) in

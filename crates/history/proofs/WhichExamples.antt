@@ -1,6 +1,6 @@
 -- Pools that put it over, so that the claims are not of nothing: k pools are lit alike under the numbers 1 to k, and at a limit that m lows pass
--- and fewer do not, the pools 1 to m are given, in this order. For every accepted enquiry whose low is above 0; that the standard's is one is
--- run (docs/OPERATIONS.md). From the claims. Assumes nothing.
+-- and fewer do not, the pools 1 to m are given, in this order. For every accepted enquiry whose low is above 0, as the standard's is by
+-- what is run (docs/OPERATIONS.md). From the claims. Assumes nothing.
 use mathlib.Core.Path.{_≡_, refl, sym, ap, _∙_}
 use mathlib.Core.Bool.{true≢false}
 use mathlib.Core.List.{List, [], _∷_}
@@ -17,7 +17,7 @@ use Rattle.history.specs.History.{Call, after, is-lit, figure-of}
 use Rattle.history.specs.OrderClaims.{set-after}
 use Rattle.history.specs.WhichClaims.{Burning, low-after, total-of, nth, Explains, GoesBefore, listed-after}
 use Rattle.history.proofs.Claims.{claims}
-use Rattle.history.proofs.Totals.{total-none, total-next}
+use Rattle.history.proofs.Total.{total-none, total-next}
 use Rattle.history.proofs.Fewest.{Numbers, sum-different}
 use Rattle.history.proofs.KnownPools.{burning-at}
 use Rattle.history.proofs.WhichClaims.{which-claims}
@@ -39,13 +39,6 @@ number-at zero i l = absurd (omega arith)
 number-at (suc m) zero l = omega arith
 number-at (suc m) (suc i) l = omega (arith, number-at m i (omega arith))
 
-total-down : (figure : ℕ → ℕ) (L m : ℕ) → ((n : ℕ) → 1 ≤ n → n ≤ m → figure n ≡ L) → total-of figure (down-from m) ≡ m * L
-unfolding down-from
-total-down figure L zero same = omega (arith, total-none figure)
-total-down figure L (suc m) same =
-    let rest = total-down figure L m (λ n l h. same n l (omega arith)) in
-    omega (arith, total-next figure (suc m) (down-from m), same (suc m) (omega arith) (omega arith), rest, suc-mul m L)
-
 different : (m : ℕ) → m ≤ 255 → Numbers 255 (down-from m)
 different m most =
     record {
@@ -66,18 +59,18 @@ module _ (E : Enquiry) (accepted : flux-of E .state ≡ 0) (k : ℕ) (few : k �
   abbrev L : ℕ
   L = flux-of E .low
 
-  a : Alight E accepted k
-  a = alight E accepted k few
+  lit-alike : Alight E accepted k
+  lit-alike = alight E accepted k few
 
   lit : (n : ℕ) → 1 ≤ n → n ≤ k → Burning calls n
-  lit n l h = ap is-lit (a .lit n l h)
+  lit n l h = ap is-lit (lit-alike .lit n l h)
 
   low : (n : ℕ) → Burning calls n → low-after calls n ≡ L
   low n b =
       let least = burning-at calls n b .1 .least in
       elim (decLe n k) [
-        | yes h ↦ ap (figure-of (λ F. flux-of F .low)) (a .lit n least h)
-        | no h ↦ absurd (true≢false (sym b ∙ ap is-lit (a .out n (lt-of-not-le h))))
+        | yes h ↦ ap (figure-of (λ F. flux-of F .low)) (lit-alike .lit n least h)
+        | no h ↦ absurd (true≢false (sym b ∙ ap is-lit (lit-alike .out n (lt-of-not-le h))))
       ]
 
   total-low : (ns : List ℕ) → ((i : ℕ) → i < length ns → Burning calls (nth ns i)) → total-of (low-after calls) ns ≡ length ns * L
@@ -90,12 +83,15 @@ module _ (E : Enquiry) (accepted : flux-of E .state ≡ 0) (k : ℕ) (few : k �
     abbrev ns : List ℕ
     ns = listed-after calls limit
 
+    lit-down : (i : ℕ) → i < length (down-from m) → Burning calls (nth (down-from m) i)
+    lit-down i l = lit (nth (down-from m) i) (different m (omega arith) .least i l) (omega (arith, number-at m i (omega (arith, l, long m)), among))
+
     these : Explains calls limit (down-from m)
     these =
         record {
-          burning = λ i l. lit (nth (down-from m) i) (different m (omega arith) .least i l) (omega (arith, number-at m i (omega (arith, l, long m)), among));
+          burning = lit-down;
           once = different m (omega arith) .once;
-          lows-over = omega (arith, enough, total-down (low-after calls) L m (λ n l h. low n (lit n l (omega arith))));
+          lows-over = omega (arith, enough, total-low (down-from m) lit-down, ap (λ n. n * L) (long m));
         }
 
     over : limit < sums-of (after calls) .lows
@@ -103,24 +99,24 @@ module _ (E : Enquiry) (accepted : flux-of E .state ≡ 0) (k : ℕ) (few : k �
         let all = sum-different (λ F. flux-of F .low) 255 (set-after calls) (down-from m) (different m (omega arith)) in
         omega (arith, these .lows-over, all, ap (λ (t : Totals). t .lows) (claims .sums calls))
 
-    x : Explains calls limit ns
-    x = which-claims .explains calls limit over
+    explained : Explains calls limit ns
+    explained = which-claims .explains calls limit over
 
     size : length ns ≡ m
     size =
         let most = which-claims .fewest calls limit (down-from m) these in
-        let less : (m - 1) * L < length ns * L = omega (arith, x .lows-over, total-low ns (x .burning), not-fewer) in
+        let less : (m - 1) * L < length ns * L = omega (arith, explained .lows-over, total-low ns (explained .burning), not-fewer) in
         omega (arith, most, long m, lt-of-mul-lt-mul-right L less, some)
 
     -- Equal lows go by number.
-    by-number : (n o : ℕ) → Burning calls n → Burning calls o → GoesBefore calls n o → n < o
-    by-number n o b c g = g .smaller-number (low n b ∙ sym (low o c))
+    by-smaller-number : (n o : ℕ) → Burning calls n → Burning calls o → GoesBefore calls n o → n < o
+    by-smaller-number n o b c g = g .smaller-number (low n b ∙ sym (low o c))
 
     rising : (i j : ℕ) → i < j → j < length ns → nth ns i < nth ns j
-    rising i j l h = by-number (nth ns i) (nth ns j) (x .burning i (omega arith)) (x .burning j h) (which-claims .ranked calls limit i j l h)
+    rising i j l h = by-smaller-number (nth ns i) (nth ns j) (explained .burning i (omega arith)) (explained .burning j h) (which-claims .ranked calls limit i j l h)
 
     least : (i : ℕ) → i < length ns → suc i ≤ nth ns i
-    least zero l = burning-at calls (nth ns 0) (x .burning 0 l) .1 .least
+    least zero l = burning-at calls (nth ns 0) (explained .burning 0 l) .1 .least
     least (suc i) l = omega (arith, least i (omega arith), rising i (suc i) (omega arith) l)
 
     -- A smaller number than suc i stands before place i; so suc i is not left out.
@@ -130,7 +126,7 @@ module _ (E : Enquiry) (accepted : flux-of E .state ≡ 0) (k : ℕ) (few : k �
           | yes e ↦ e
           | no e ↦
               let here : Burning calls (suc i) = lit (suc i) (omega arith) (omega (arith, h, size, among)) in
-              absurd (omega (arith, e, by-number (nth ns i) (suc i) (x .burning i h) here (which-claims .left-out calls limit (suc i) here (not-listed (lt-of-not-le e)) i h)))
+              absurd (omega (arith, e, by-smaller-number (nth ns i) (suc i) (explained .burning i h) here (which-claims .left-out calls limit (suc i) here (not-listed (lt-of-not-le e)) i h)))
         ]
       where
         not-listed : suc i < nth ns i → (j : ℕ) → j < length ns → nth ns j ≡ suc i → ⊥

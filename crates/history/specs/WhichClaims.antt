@@ -69,7 +69,8 @@ pub record WhichClaims : Type 0 where
   pub not-over : (R : Register) (limit : ℕ) → sums-of R .lows ≤ limit → which-of R limit .state ≡ 55
   pub when-over : (R : Register) (limit : ℕ) → limit < sums-of R .lows → which-of R limit .state ≡ 0
   pub empty-set : (R : Register) (limit : ℕ) → which-of R limit .state ≡ 55 → which-of R limit .count ≡ 0
-  -- "The count shown is the size of the set given.": a pool at each place before the count, 0 at each from it on, of 32; every register
+  -- "The count shown is the size of the set given.": a number from 1 on at each place before the count, 0 at each from it on; every register,
+  -- and 32 such places for one that has 32
   pub counted : (R : Register) (limit i : ℕ) → i < which-of R limit .count → 1 ≤ nth (which-of R limit .numbers) i
   pub past-the-count : (R : Register) (limit i : ℕ) → which-of R limit .count ≤ i → nth (which-of R limit .numbers) i ≡ 0
   pub thirty-two : (R : Register) (limit : ℕ) → length (R .places) ≡ 32 → length (which-of R limit .numbers) ≡ 32

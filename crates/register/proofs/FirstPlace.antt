@@ -2,8 +2,8 @@
 -- every place has a pool. By induction over the places. Assumes nothing.
 use mathlib.Core.Path.{_≡_, refl, sym, ap, _∙_}
 use mathlib.Core.Bool.{true, false, true≢false}
-use mathlib.Core.List.{List, _∷_}
-use Prim.Native.Nat.{ℕ, suc, _≤_, _<_}
+use mathlib.Core.List.{List, [], _∷_}
+use Prim.Native.Nat.{ℕ, zero, suc, _+_, _≤_, _<_}
 use native.Mathlib.Nat.{lt-of-not-le}
 use native.Mathlib.Decide.{ℕ-discrete, decLe}
 use native.Mathlib.Omega.{arith}
@@ -13,7 +13,7 @@ use Rattle.register.specs.Places.{vacant, has}
 use Rattle.register.specs.Sums.{over-burning}
 use Rattle.register.specs.Calls.{replaced}
 use Rattle.register.specs.Private.{first-of}
-use Rattle.register.proofs.ByNumber.{has-here, has-later, first-here, first-later, replaced-here, replaced-later, sum-vacant, sum-burning, has-none, replaced-none, sum-none, by-number}
+use Rattle.register.proofs.ByNumber.{pool-at, has-here, has-later, first-here, first-later, replaced-here, replaced-later, sum-vacant, sum-burning, has-none, replaced-none, sum-none, by-number}
 
 module _ (n : ℕ) where
   pub has-place : (ps : List BurningPool) → first-of n ps < length ps → has n ps ≡ true
@@ -85,3 +85,17 @@ one-less n k =
           | yes z ↦ omega (arith, now, rest, sum-vacant (λ q. 1) p (replaced n vacant ps) z, sum-vacant (λ q. 1) p ps z)
           | no z ↦ omega (arith, now, rest, sum-burning (λ q. 1) p (replaced n vacant ps) z, sum-burning (λ q. 1) p ps z)
         ]
+
+-- ---- a burning pool's place is made vacant: the sum loses its figure
+module _ (figure : BurningPool → ℕ) (out : BurningPool) (o : out .number ≡ 0) where
+  pub sum-without :
+      (ps : List BurningPool) (i : ℕ) → i < length ps → (pool-at ps i .number ≡ 0 → ⊥)
+      → over-burning figure ps ≡ figure (pool-at ps i) + over-burning figure (set ps i out)
+  sum-without [] i l e = absurd (omega arith)
+  sum-without (p ∷ ps) zero l e = sum-burning figure p ps e ∙ ap (_+_ (figure p)) (sym (sum-vacant figure out ps o))
+  sum-without (p ∷ ps) (suc i) l e =
+      let rest = sum-without ps i (omega arith) e in
+      elim (ℕ-discrete (p .number) 0) [
+        | yes z ↦ omega (arith, rest, sum-vacant figure p ps z, sum-vacant figure p (set ps i out) z)
+        | no z ↦ omega (arith, rest, sum-burning figure p ps z, sum-burning figure p (set ps i out) z)
+      ]
