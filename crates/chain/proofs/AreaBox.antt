@@ -3,7 +3,7 @@
 use mathlib.Core.Path.{_≡_}
 use mathlib.Core.Bool.{Bool, true}
 use mathlib.Core.List.{List, [], _∷_}
-use Prim.Native.Nat.{ℕ, zero, suc, _+_, _*_, _-_, _/_, _≤_, _<_, zero-le, max}
+use Prim.Native.Nat.{ℕ, zero, suc, _+_, _*_, _-_, _/_, _≤_, _<_, zero-le}
 use native.Mathlib.Nat.{le-trans, le-refl, lt-of-le-of-lt, mul-le-mul, mul-le-mul-left, mul-le-mul-right}
 use native.Mathlib.Omega.{arith}
 use lib.Dec.{T, leb, ltb, eqb, leb→le, ltb→lt, lit<, lit≤}
@@ -21,11 +21,12 @@ use Rattle.chain.proofs.Within.{Held, Within, within}
 use Rattle.chain.proofs.Steps.{diameter-kept, burning-kept, flame-height-kept, emissive-power-1-kept, emissive-power-2-kept, froude-number-kept, flame-height-3-kept, emissive-power-3-kept, in-radii-kept}
 use Rattle.chain.proofs.Boxes.{known, passing, tests-passed, passed, constant-held, times-over-held, every, each}
 use Rattle.chain.proofs.Sweep.{sweep}
+use Rattle.chain.proofs.Limits.{Fuel}
 use Rattle.chain.proofs.Exponential.{spread, exp-bound, shallowest, deepest, burnt, Depth, unabsorbed}
 use Rattle.chain.proofs.Burning.{burning-near}
 use Rattle.chain.proofs.Radii.{thin, radii-near}
 use Rattle.chain.proofs.Configuration.{elevation-bound, relative-distance-bound}
-use Rattle.chain.proofs.Flame.{emissive-bound-1, emissive-bound-2, emissive-bound-3, emissive-bound, flame-width, FlameBounded, with-power, flame-test, From, flame-swept}
+use Rattle.chain.proofs.Flame.{emissive-bound-1, emissive-bound-2, emissive-bound-3, emissive-bound, flame-width, FlameBounded, with-power, rate-test, From, flame-swept}
 
 abbrev pub diameter-bound : Bound
 diameter-bound = record { least = U; most = 50 * U; width = 6_000; safe = true }
@@ -43,18 +44,15 @@ abbrev pub unabsorbed-box : ℕ → Bound
 unabsorbed-box least = record { least = exp-bound .least; most = U - least; width = exp-bound .width; safe = true }
 
 -- Q and M: the heat and the mass that burn.
-unfoldable pub heat-box : ℕ → ℕ → Bound
-heat-box b least = burning bounds (thousandths-box 0 (75_000 * b)) (unabsorbed-box least)
+unfoldable pub heat-box : ℕ → ℕ → ℕ → Bound
+heat-box a b least = burning bounds (thousandths-box (1_000 * a) (75_000 * b)) (unabsorbed-box least)
 
 unfoldable pub mass-box : ℕ → Bound
 mass-box least = burning bounds (thousandths-box 10 150) (unabsorbed-box least)
 
--- The first box of heat release rates reaches to where flames are high enough; then by four fifths. Burning rates by a half.
-unfoldable pub next-heat : Bound → ℕ → ℕ
-next-heat D q = max (q + q * 4 / 5) (fifth-power-up (root-below (5 * D .least * U)))
-
-abbrev pub next-mass : ℕ → ℕ
-next-mass m = m + m / 2
+-- Boxes of heat release rates and of burning rates.
+abbrev pub next-rate : ℕ → ℕ
+next-rate q = q + q / 3
 
 -- L of method 3 from M.
 abbrev pub smoky-height : Bound → Bound → Bound
@@ -84,26 +82,18 @@ area-tests b D Q M P =
     ∷ passing elevation-bound (in-radii bounds (thousandths-box 0 20_000) D)
     ∷ passing emissive-bound-1 (emissive-power-1 bounds D)
     ∷ Q .safe
-    ∷ sweep (flame-test (flame-height bounds D) (emissive-power-2 bounds D) emissive-bound-2 D (Q .width) (burnt-from D) (allowed D)) (next-heat D) 100 (Q .least) (suc (Q .most))
+    ∷ sweep (rate-test (flame-height bounds D) (emissive-power-2 bounds D) emissive-bound-2 D (Q .width) (burnt-from D) (allowed D)) next-rate 100 (Q .least) (suc (Q .most))
     ∷ M .safe
-    ∷ sweep (flame-test (smoky-height D) (λ _ _. P) emissive-bound-3 D (M .width) (burnt-from D) (allowed D)) next-mass 40 (M .least) (suc (M .most))
+    ∷ sweep (rate-test (smoky-height D) (λ _ _. P) emissive-bound-3 D (M .width) (burnt-from D) (allowed D)) next-rate 40 (M .least) (suc (M .most))
     ∷ []
 
-abbrev pub pool-tests : ℕ → Bound → List Bool
-pool-tests b D = area-tests b D (heat-box b (burnt-from D)) (mass-box (burnt-from D)) (emissive-power-3 bounds D)
+abbrev pub pool-tests : ℕ → ℕ → Bound → List Bool
+pool-tests a b D = area-tests b D (heat-box a b (burnt-from D)) (mass-box (burnt-from D)) (emissive-power-3 bounds D)
 
 unfoldable pub area-test : ℕ → ℕ → Bool
-area-test a b = every (pool-tests b (diameter bounds (area-box a b)))
+area-test a b = every (pool-tests a b (diameter bounds (area-box a b)))
 
--- ---- the numbers of the enquiry
--- The fuel's numbers as far as the steps up to the flame need them.
-pub record Fuel (E : Enquiry) : Type 0 where
-  pub least-rate : 10 ≤ E .rate
-  pub most-rate : E .rate ≤ 150
-  pub least-absorption : 10 ≤ E .absorption
-  pub most-absorption : E .absorption ≤ 500
-  pub heat : E .heat ≤ 500
-
+-- ---- the numbers of the enquiry, as exact pairs
 area-held : (n a b : ℕ) → a ≤ n → n ≤ b → b ≤ 190_001 → Held (answers .constant (4 * n) 100) (area-box a b)
 unfolding R.constant
 area-held n a b l u w =
@@ -125,7 +115,7 @@ hundred = lit< tt
 module _ (E : Enquiry) (F : Fuel E) (D : Bound) (hD : Held (diameter-of answers E) D) (safe : T (D .safe)) (below-50 : D .most ≤ 50 * U) where
   depth-held : Held (optical-depth answers (E .absorption) (diameter-of answers E)) (B.over (B.times D (E .absorption)) 100)
   unfolding optical-depth
-  depth-held = times-over-held (E .absorption) 100 safe hundred (omega (arith, mul-le-mul below-50 (F .most-absorption))) hD
+  depth-held = times-over-held (E .absorption) 100 safe hundred (omega (arith, mul-le-mul below-50 (F .absorption .high))) hD
 
   -- X, and that 1-X is at least what the least optical depth burns.
   unabsorbed-held : shallowest ≤ depth-from D → up (D .most * 500) 100 < deepest → D .width * 2_000_000_000 ≤ D .least → Held (unabsorbed-of answers E) exp-bound × ((unabsorbed-of answers E) .pair .high + burnt-from D ≤ U)
@@ -135,10 +125,10 @@ module _ (E : Enquiry) (F : Fuel E) (D : Bound) (hD : Held (diameter-of answers 
       let y = depth-held .inside in
       let Y = optical-depth answers (E .absorption) (diameter-of answers E) in
       let p = Y .pair in
-      let high : p .high < deepest = lt-of-le-of-lt (le-trans (y .high) (up-grows hundred (le-refl 100) (mul-le-mul-left (D .most) (F .most-absorption)))) below in
+      let high : p .high < deepest = lt-of-le-of-lt (le-trans (y .high) (up-grows hundred (le-refl 100) (mul-le-mul-left (D .most) (F .absorption .high)))) below in
       let wide : D .width * k * 2_000_000_000 ≤ D .least * k = omega (arith, mul-le-mul-right k narrow) in
       let near : p .high ≤ p .low + spread (p .low) = omega (arith, y .near, spread-covers (D .width * k) (D .least * k) (p .low) wide (y .low)) in
-      let deep : depth-from D ≤ p .low = le-trans (down-grows hundred (le-refl 100) (mul-le-mul-left (D .least) (F .least-absorption))) (y .low) in
+      let deep : depth-from D ≤ p .low = le-trans (down-grows hundred (le-refl 100) (mul-le-mul-left (D .least) (F .absorption .low))) (y .low) in
       let depth : Depth Y = record { given = depth-held .given; ordered = y .ordered; near = near } in
       let X = unabsorbed Y depth (le-trans above deep) (lt-of-le-of-lt (y .ordered) high) in
       (X .held, omega (arith, X .below-one, deep))
@@ -160,8 +150,11 @@ pub record Area (E : Enquiry) : Type 0 where
   pub elevation : (n : ℕ) → n ≤ 20_000 → Held (in-radii answers (answers .constant n 1000) (diameter-of answers E)) elevation-bound
   pub flame : FlameBounded E (flame-of answers E) (emissive-bound (E .method))
 
-rates : (E : Enquiry) → Fuel E → E .rate * E .heat * E .area ≤ 75_000 * E .area
-rates E F = mul-le-mul-right (E .area) (mul-le-mul (F .most-rate) (F .heat))
+least-supply : (E : Enquiry) → Fuel E → 1_000 * E .area ≤ E .rate * E .heat * E .area
+least-supply E F = mul-le-mul-right (E .area) (mul-le-mul (F .rate .low) (F .heat .low))
+
+most-supply : (E : Enquiry) → Fuel E → E .rate * E .heat * E .area ≤ 75_000 * E .area
+most-supply E F = mul-le-mul-right (E .area) (mul-le-mul (F .rate .high) (F .heat .high))
 
 distance-within : (E : Enquiry) (D : Bound) → Within (diameter-of answers E) D → 1_000 ≤ E .distance → E .distance ≤ 200_000 → Within (relative-distance-of answers E) (distances D)
 unfolding relative-distance-of
@@ -193,9 +186,9 @@ unfolding area-test diameter-of heat-release-of burning-rate-of relative-distanc
 area-tested a b t n l u E e F =
     let D = diameter bounds (area-box a b) in
     let least = burnt-from D in
-    let Q = heat-box b least in
+    let Q = heat-box a b least in
     let M = mass-box least in
-    let c = each (pool-tests b D) t in
+    let c = each (pool-tests a b D) t in
     let small : b ≤ 190_001 = leb→le b 190_001 (c .0) in
     let dw = diameter-kept within (known (area-held (E .area) a b (rw e at l) (rw e at u) small)) in
     let p = tests-passed diameter-bound D (c .1 .0) in
@@ -210,9 +203,9 @@ area-tested a b t n l u E e F =
     let s = tests-passed relative-distance-bound (distances D) (c₅ .0) in
     let near-enough : 1_000 ≤ E .distance → E .distance ≤ 200_000 → allowed D ≤ flame-width ((relative-distance-of answers E) .pair .low) = λ lo hi. let near = distance lo hi .where-safe (s .safe) .inside .low in omega (arith, near) in
     let c₈ = c₅ .1 .1 .1 in
-    let supply = thousandths-held (E .rate * E .heat * E .area) 0 (75_000 * b) zero-le (omega (arith, rates E F, rw e at u)) (omega arith) in
+    let supply = thousandths-held (E .rate * E .heat * E .area) (1_000 * a) (75_000 * b) (omega (arith, least-supply E F, rw e at l)) (omega (arith, most-supply E F, rw e at u)) (omega arith) in
     let q = burning-kept within (known supply) x .where-safe (c₈ .0) in
-    let rate = thousandths-held (E .rate) 10 150 (F .least-rate) (F .most-rate) (lit≤ tt) in
+    let rate = thousandths-held (E .rate) 10 150 (F .rate .low) (F .rate .high) (lit≤ tt) in
     let m = burning-kept within (known rate) x .where-safe (c₈ .1 .1 .0) in
     record {
       diameter = passed diameter-bound (c .1 .0) dw;
@@ -225,7 +218,7 @@ area-tested a b t n l u E e F =
       flame =
           by-method E (passed emissive-bound-1 (c₅ .1 .1 .0) (emissive-power-1-kept within dw))
           (flame-swept E D d (allowed D) near-enough _ Q q least (burning-near _ E least (omega arith) (X .0) (X .1) (q .given)) _ _ _ (from-heat E D dw)
-          emissive-bound-2 (next-heat D) 100 (c₈ .1 .0))
+          emissive-bound-2 next-rate 100 (c₈ .1 .0))
           (flame-swept E D d (allowed D) near-enough _ M m least (burning-near _ E least (omega arith) (X .0) (X .1) (m .given)) _ _ _ (from-mass E D dw)
-          emissive-bound-3 next-mass 40 (c₈ .1 .1 .1 .0));
+          emissive-bound-3 next-rate 40 (c₈ .1 .1 .1 .0));
     }

@@ -7,15 +7,16 @@ use lib.Dec.{T}
 use Rattle.chain.proofs.Opened.{opened}
 use Rattle.chain.proofs.Sweep.{sweep, swept}
 use Rattle.chain.proofs.Burning.{burning-width}
-use Rattle.chain.proofs.Flame.{not-too-low, flame-test}
-use Rattle.chain.proofs.AreaBox.{heat-box, mass-box, next-heat, area-test, Fuel, Area, area-tested}
+use Rattle.chain.proofs.Limits.{Fuel}
+use Rattle.chain.proofs.Flame.{rate-test}
+use Rattle.chain.proofs.AreaBox.{heat-box, mass-box, area-test, Area, area-tested}
 use Rattle.chain.specs.declared.enquiry.Enquiry.{Enquiry}
 
 abbrev pub next-area : ℕ → ℕ
 next-area a = min (a + a / 2) 190_001
 
 area-sweep : T (sweep area-test next-area 40 100 190_001)
-unfolding opened area-test flame-test not-too-low next-heat heat-box mass-box burning-width
+unfolding opened area-test rate-test heat-box mass-box burning-width
 area-sweep = tt
 
 pub areas : (E : Enquiry) → 100 ≤ E .area → E .area ≤ 190_000 → Fuel E → Area E

@@ -20,7 +20,7 @@ use Rattle.chain.proofs.FactorSweep.{Grid, box-test, height-sweep, fact
 
 -- ---- where l, h and e lie, and how wide they may be
 abbrev pub relative-height-bound : Bound
-relative-height-bound = record { least = 400_000_000_000; most = 17_499_999_999_999; width = 1_300_000; safe = true }
+relative-height-bound = record { least = 0; most = 17_499_999_999_999; width = 1_300_000; safe = true }
 
 abbrev pub elevation-bound : Bound
 elevation-bound = record { least = 0; most = 36 * U; width = 6_000; safe = true }

@@ -2,13 +2,11 @@
 -- they are. A method has its flame from a rate, of heat or of mass; where the tests of the boxes of that rate pass, it is shown.
 -- Assumes nothing.
 use mathlib.Core.Path.{_≡_, refl}
-use mathlib.Core.Bool.{Bool, true, false, _&&_}
-use mathlib.Core.Logic.{inl, inr}
-use Prim.Native.Nat.{ℕ, suc, _+_, _*_, _/_, _≤_, max, min}
-use native.Mathlib.Nat.{max-le}
+use mathlib.Core.Bool.{Bool, true, false}
+use mathlib.Core.List.{List, [], _∷_}
+use Prim.Native.Nat.{ℕ, suc, _+_, _*_, _/_, _≤_, min}
 use native.Mathlib.Omega.{arith}
-use lib.Dec.{T, leb, ltb, eqb, leb→le, ltb→lt}
-use lib.Ieee.Fits.{and-l, and-r}
+use lib.Dec.{T, leb, eqb, leb→le}
 use Rattle.pairs.specs.Rounded.{U}
 use Rattle.pairs.specs.Figures.{Figures}
 use Rattle.pairs.specs.Answers.{answers}
@@ -17,8 +15,8 @@ use Rattle.chain.specs.Chain.{Flame, in-radii, diameter-of, relative-dis
 use Rattle.chain.proofs.Bounds.{Bound, bounds}
 use Rattle.chain.proofs.Within.{Held, Within, within}
 use Rattle.chain.proofs.Steps.{in-radii-kept}
-use Rattle.chain.proofs.Boxes.{box, in-box, known, below-last, passing, tests-passed, passed}
-use Rattle.chain.proofs.Sweep.{sweep, swept, chosen}
+use Rattle.chain.proofs.Boxes.{box, in-box, known, below-last, passing, tests-passed, passed, every, each}
+use Rattle.chain.proofs.Sweep.{sweep, swept}
 use Rattle.chain.proofs.Burning.{burning-width}
 use Rattle.chain.proofs.Configuration.{relative-height-bound}
 
@@ -45,59 +43,38 @@ emissive-bound method =
 abbrev pub flame-width : ℕ → ℕ
 flame-width e = 76_000 + 77_000 * min 1 (e / 100_000_000_000) + 287_000 * min 1 (e / 420_000_000_000)
 
--- ---- what is shown of a flame f whose emissive power has a span
--- Where it is not too low: l and E.
-pub record High (E : Enquiry) (f : Flame Figures) (span : Bound) : Type 0 where
+-- ---- what is shown of a flame f whose emissive power has a span: L, l and E, whether or not it is too low
+pub record FlameBounded (E : Enquiry) (f : Flame Figures) (span : Bound) : Type 0 where
+  pub not-refused : (f .height) .number ≡ 0
   pub height : Held (in-radii answers (f .height) (diameter-of answers E)) relative-height-bound
   pub height-near : 1_000 ≤ E .distance → E .distance ≤ 200_000 → (in-radii answers (f .height) (diameter-of answers E)) .pair .high ≤ (in-radii answers (f .height) (diameter-of answers E)) .pair .low + flame-width ((relative-distance-of answers E) .pair .low)
   pub power : Held (f .power) span
 
-pub record FlameBounded (E : Enquiry) (f : Flame Figures) (span : Bound) : Type 0 where
-  pub not-refused : (f .height) .number ≡ 0
-  pub high : (diameter-of answers E) .pair .high ≤ 4 * (f .height) .pair .low → High E f span
-
 -- The same flame with another emissive power.
 pub with-power : {E : Enquiry} {f : Flame Figures} {span : Bound} (P : Figures) (other : Bound) → Held P other → FlameBounded E f span → FlameBounded E (record { height = f .height; power = P }) other
-with-power P other p s =
-    record {
-      not-refused = s .not-refused;
-      high = λ tall. let h = s .high tall in record { height = h .height; height-near = h .height-near; power = p };
-    }
+with-power P other p s = record { not-refused = s .not-refused; height = s .height; height-near = s .height-near; power = p }
 
 -- ---- the tests of one box of rates
--- A flame that is not too low has a quarter of the diameter at least.
-unfoldable pub not-too-low : Bound → Bound → Bound
-not-too-low D L = record { least = max (L .least) (D .least / 4); most = L .most; width = L .width; safe = L .safe }
-
 -- A box of rates, as wide as the largest full rate or the rate itself allows: 1-X is at least the least.
 abbrev pub rate-box : ℕ → ℕ → ℕ → ℕ → Bound
 rate-box widest least a b = box a b (min widest (burning-width least b))
 
--- Either every flame of the box is too low, or l and E are in their spans and l is no wider than allowed.
-unfoldable pub flame-test : (Bound → Bound) → (Bound → Bound → Bound) → Bound → Bound → ℕ → ℕ → ℕ → ℕ → ℕ → Bool
-flame-test height power span D widest least allowed a b =
+-- L is not refused, l and E are in their spans and l is no wider than allowed.
+abbrev box-tests : (Bound → Bound → Bound) → Bound → Bound → ℕ → Bound → Bound → Bound → List Bool
+box-tests power span D allowed Q L l = L .safe ∷ passing relative-height-bound l ∷ leb (l .width) allowed ∷ passing span (power Q L) ∷ []
+
+abbrev height-tests : (Bound → Bound → Bound) → Bound → Bound → ℕ → Bound → Bound → List Bool
+height-tests power span D allowed Q L = box-tests power span D allowed Q L (in-radii bounds L D)
+
+unfoldable pub rate-test : (Bound → Bound) → (Bound → Bound → Bound) → Bound → Bound → ℕ → ℕ → ℕ → ℕ → ℕ → Bool
+rate-test height power span D widest least allowed a b =
     let Q = rate-box widest least a b in
-    let L = height Q in
-    L .safe && elim (ltb (4 * L .most) (D .least)) [
-      | true ↦ true
-      | false ↦
-          let high = not-too-low D L in
-          let l = in-radii bounds high D in
-          passing relative-height-bound l && leb (l .width) allowed && passing span (power Q high)
-    ]
+    every (height-tests power span D allowed Q (height Q))
 
 -- How a method has its flame from a rate, in bounds.
 pub record From (rate : Figures) (f : Flame Figures) (height : Bound → Bound) (power : Bound → Bound → Bound) : Type 0 where
   pub height-within : {Q : Bound} → Within rate Q → Within (f .height) (height Q)
   pub power-within : {Q L : Bound} → Within rate Q → Within (f .height) L → Within (f .power) (power Q L)
-
-raised : (E : Enquiry) (f : Flame Figures) (D L : Bound) → Held (diameter-of answers E) D → Held (f .height) L → (diameter-of answers E) .pair .high ≤ 4 * (f .height) .pair .low → Held (f .height) (not-too-low D L)
-unfolding not-too-low
-raised E f D L d l tall =
-    let i = l .inside in
-    let j = d .inside in
-    let quarter : D .least / 4 ≤ (f .height) .pair .low = omega (arith, j .low, j .ordered, tall) in
-    record { given = l .given; inside = record { low = max-le (i .low) quarter; ordered = i .ordered; high = i .high; near = i .near } }
 
 module _ (E : Enquiry) (D : Bound) (d : Held (diameter-of answers E) D) (allowed : ℕ)
     (near-enough : 1_000 ≤ E .distance → E .distance ≤ 200_000 → allowed ≤ flame-width ((relative-distance-of answers E) .pair .low))
@@ -109,41 +86,25 @@ module _ (E : Enquiry) (D : Bound) (d : Held (diameter-of answers E) D) (allowed
       let i = q .inside in
       in-box a b _ (q .given) l u (i .ordered) (omega (arith, i .near, narrow b u))
 
-  flame-tested : (a b : ℕ) → T (flame-test height power span D (Q .width) least allowed a b) → (i : ℕ) → a ≤ i → i ≤ b → i ≡ rate .pair .low → FlameBounded E f span
-  unfolding flame-test
-  flame-tested a b t i l u e =
+  rate-tested : (a b : ℕ) → T (rate-test height power span D (Q .width) least allowed a b) → (i : ℕ) → a ≤ i → i ≤ b → i ≡ rate .pair .low → FlameBounded E f span
+  unfolding rate-test
+  rate-tested a b t i l u e =
       let heat = rate-boxed a b (rw e at l) (rw e at u) in
       let Q-box = rate-box (Q .width) least a b in
-      let L = height Q-box in
-      let tall = not-too-low D L in
-      let r = in-radii bounds tall D in
-      let height-test : Bool = passing relative-height-bound r in
-      let near-test : Bool = leb (r .width) allowed in
-      let power-test : Bool = passing span (power Q-box tall) in
-      let rest : Bool = height-test && near-test && power-test in
-      let test : Bool = elim (ltb (4 * L .most) (D .least)) [ true ↦ true | false ↦ rest ] in
-      let H = way .height-within heat .where-safe (and-l (L .safe) test t) in
+      let c = each (height-tests power span D allowed Q-box (height Q-box)) t in
+      let h = way .height-within heat in
+      let r = in-radii bounds (height Q-box) D in
+      let w = in-radii-kept within h (known d) in
+      let within-box = w .where-safe (tests-passed relative-height-bound r (c .1 .0) .safe) .inside .near in
       record {
-        not-refused = H .given;
-        high = λ tall-enough.
-            elim (chosen (ltb (4 * L .most) (D .least)) true rest (and-r (L .safe) test t)) [
-              | inl p ↦ absurd (omega (arith, ltb→lt (4 * L .most) (D .least) (p .0), d .inside .low, d .inside .ordered, H .inside .ordered, H .inside .high, tall-enough))
-              | inr p ↦
-                  let h = known (raised E f D L d H tall-enough) in
-                  let p₁ = and-l (height-test && near-test) power-test p in
-                  let p₂ = and-l height-test near-test p₁ in
-                  let w = in-radii-kept within h (known d) in
-                  let within-box = w .where-safe (tests-passed relative-height-bound r p₂ .safe) .inside .near in
-                  record {
-                    height = passed relative-height-bound p₂ w;
-                    height-near = λ lo hi. omega (arith, within-box, leb→le (r .width) allowed (and-r height-test near-test p₁), near-enough lo hi);
-                    power = passed span (and-r (height-test && near-test) power-test p) (way .power-within heat h);
-                  }
-            ];
+        not-refused = h .where-safe (c .0) .given;
+        height = passed relative-height-bound (c .1 .0) w;
+        height-near = λ lo hi. omega (arith, within-box, leb→le (r .width) allowed (c .1 .1 .0), near-enough lo hi);
+        power = passed span (c .1 .1 .1 .0) (way .power-within heat h);
       }
 
   -- Every rate inside its bound.
-  pub flame-swept : (next : ℕ → ℕ) (n : ℕ) → T (sweep (flame-test height power span D (Q .width) least allowed) next n (Q .least) (suc (Q .most))) → FlameBounded E f span
+  pub flame-swept : (next : ℕ → ℕ) (n : ℕ) → T (sweep (rate-test height power span D (Q .width) least allowed) next n (Q .least) (suc (Q .most))) → FlameBounded E f span
   flame-swept next n t =
-      swept (flame-test height power span D (Q .width) least allowed) next (λ i. i ≡ rate .pair .low → FlameBounded E f span) flame-tested
+      swept (rate-test height power span D (Q .width) least allowed) next (λ i. i ≡ rate .pair .low → FlameBounded E f span) rate-tested
       n (Q .least) (suc (Q .most)) t (rate .pair .low) (q .inside .low) (below-last q) refl

@@ -13,12 +13,13 @@ pub mod FactorSweep
 pub mod Configuration
 pub mod Burning
 pub mod Radii
+pub mod FirstThatApplies
+pub mod Limits
 pub mod Flame
 pub mod AreaBox
 pub mod Areas
 pub mod Haze
-pub mod Limits
-pub mod Accepted
+pub mod Unrefused
 pub mod Level
 pub mod WorstFace
 pub mod FactorAlone

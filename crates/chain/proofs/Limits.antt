@@ -1,6 +1,6 @@
 -- The tests of one flux as facts: numbers inside their limits, an accepted enquiry as one to which no number applies, and the
 -- numbers of refusals above 0.
--- By the outcomes of the tests, one after another. Assumes nothing.
+-- By the laws of a list of tests. Assumes nothing.
 use mathlib.Core.Path.{_≡_, refl, subst}
 use mathlib.Core.Bool.{Bool, true, false, _&&_, not}
 use Prim.Native.Nat.{ℕ, _≤_, _<_}
@@ -10,18 +10,13 @@ use lib.Dec.{T, leb, ltb, leb→le, lit≤, lit<}
 use native.Mathlib.Decide.{decLe}
 use borrow.Author.Tests.{le-leb, lt-leb, lt-ltb, le-ltb}
 use lib.IntN.{ℤ, pos, negsuc, natAbs}
-use Rattle.pairs.proofs.Tests.{past-test}
 use Rattle.chain.specs.declared.enquiry.Enquiry.{Enquiry}
 use Rattle.chain.specs.declared.enquiry.Turned.{Turned}
 use Rattle.chain.specs.declared.enquiry.Turned.the-variants as turned
-use Rattle.chain.specs.Flux.{Shown, number-of, outside, fuel-within, height-outside, flame-too-low, stage-too-large, low-of, high-of, note-of, flux-of}
+use Rattle.chain.specs.Tests.{Test, NoneApplies}
+use Rattle.chain.specs.Flux.{Shown, refused, number-of, outside, fuel-within, height-outside, flame-too-low, low-of, high-of, note-of, limits, flame-test, tests, flux-of}
 use Rattle.chain.specs.Private.{Limited}
-use Rattle.chain.proofs.AreaBox.{Fuel}
-
--- No number from 11 to 16 applies, nor 18 or 19.
-pub record Tested (E : Enquiry) : Type 0 where
-  pub limited : Limited E
-  pub flame : flame-too-low E ≡ false
+use Rattle.chain.proofs.FirstThatApplies.{EachTest, each-test, none-of-first, none-of-last, none-of-both, none-told, past-tests}
 
 pub record Between (least n most : ℕ) : Type 0 where
   pub low : least ≤ n
@@ -58,18 +53,29 @@ three true b c e = absurd (subst T e tt)
 three false true c e = absurd (subst T e tt)
 three false false true e = absurd (subst T e tt)
 
-pub fuel : (E : Enquiry) → not (fuel-within E) ≡ false → Fuel E
+-- ---- the numbers of an enquiry inside their limits
+pub record Fuel (E : Enquiry) : Type 0 where
+  pub rate : Between 10 (E .rate) 150
+  pub absorption : Between 10 (E .absorption) 500
+  pub heat : Between 100 (E .heat) 500
+
+pub record Numbers (E : Enquiry) : Type 0 where
+  pub fuel : Fuel E
+  pub area : Between 100 (E .area) 190_000
+  pub method : Between 1 (E .method) 3
+  pub distance : Between 1_000 (E .distance) 200_000
+  pub face : Between 1 (E .face) 3
+  pub height : natAbs (E .height) ≤ 20_000
+  pub transmissivity : Between 1 (E .transmissivity) 1_000
+
+fuel : (E : Enquiry) → not (fuel-within E) ≡ false → Fuel E
 unfolding fuel-within
 fuel E e =
     let t = three (outside 10 150 (E .rate)) (outside 10 500 (E .absorption)) (outside 100 500 (E .heat)) e in
-    let m = between 10 150 (E .rate) (t .0) in
-    let k = between 10 500 (E .absorption) (t .1) in
     record {
-      least-rate = m .low;
-      most-rate = m .high;
-      least-absorption = k .low;
-      most-absorption = k .high;
-      heat = between 100 500 (E .heat) (t .2) .high;
+      rate = between 10 150 (E .rate) (t .0);
+      absorption = between 10 500 (E .absorption) (t .1);
+      heat = between 100 500 (E .heat) (t .2);
     }
 
 pub height : (z : ℤ) → height-outside z ≡ false → natAbs z ≤ 20_000
@@ -77,34 +83,63 @@ unfolding height-outside
 height (pos n) e = between 0 20_000 n e .high
 height (negsuc n) e = le-trans (between 0 5_000 _ e .high) (lit≤ tt)
 
-pub transmissivity : (E : Enquiry) → Limited E → E .transmissivity ≤ 1000
-transmissivity E w = between 1 1_000 (E .transmissivity) (w .transmissivity) .high
-
--- A state that is none of 11 to 16, 18 and 19 comes after all their tests.
-pub past-tests : (E : Enquiry) (k : ℕ) → ((n : ℕ) → 11 ≤ n → n ≤ 19 → (n ≡ 17 → ⊥) → n ≡ k → ⊥) → (flux-of E) .state ≡ k → Tested E
-unfolding flux-of
-past-tests E k other e =
-    let P : Shown → Type 0 = λ s. s .state ≡ k in
-    let t11 = past-test P (not (fuel-within E)) (other 11 (lit≤ tt) (lit≤ tt) (λ z. omega (arith, z))) e in
-    let t12 = past-test P (outside 100 190_000 (E .area)) (other 12 (lit≤ tt) (lit≤ tt) (λ z. omega (arith, z))) (t11 .1) in
-    let t13 = past-test P (outside 1 3 (E .method)) (other 13 (lit≤ tt) (lit≤ tt) (λ z. omega (arith, z))) (t12 .1) in
-    let t14 = past-test P (outside 1_000 200_000 (E .distance)) (other 14 (lit≤ tt) (lit≤ tt) (λ z. omega (arith, z))) (t13 .1) in
-    let t15 = past-test P (outside 1 3 (E .face)) (other 15 (lit≤ tt) (lit≤ tt) (λ z. omega (arith, z))) (t14 .1) in
-    let t18 = past-test P (height-outside (E .height)) (other 18 (lit≤ tt) (lit≤ tt) (λ z. omega (arith, z))) (t15 .1) in
-    let t19 = past-test P (outside 1 1_000 (E .transmissivity)) (other 19 (lit≤ tt) (lit≤ tt) (λ z. omega (arith, z))) (t18 .1) in
-    let t16 = past-test P (flame-too-low E) (other 16 (lit≤ tt) (lit≤ tt) (λ z. omega (arith, z))) (t19 .1) in
+pub numbers : (E : Enquiry) → Limited E → Numbers E
+unfolding limits
+numbers E (t11, (t12, (t13, (t14, (t15, (t18, (t19, _))))))) =
     record {
-      limited = record { fuel = t11 .0; area = t12 .0; method = t13 .0; distance = t14 .0; face = t15 .0; height = t18 .0; transmissivity = t19 .0 };
-      flame = t16 .0;
+      fuel = fuel E t11;
+      area = between 100 190_000 (E .area) t12;
+      method = between 1 3 (E .method) t13;
+      distance = between 1_000 200_000 (E .distance) t14;
+      face = between 1 3 (E .face) t15;
+      height = height (E .height) t18;
+      transmissivity = between 1 1_000 (E .transmissivity) t19;
     }
 
-pub accepted-tested : (E : Enquiry) → (flux-of E) .state ≡ 0 → Tested E
-accepted-tested E = past-tests E 0 (λ n l u h e. omega arith)
+-- ---- an accepted enquiry
+-- No number from 11 to 16 applies, nor 18 or 19.
+abbrev pub Tested : Enquiry → Type 0
+Tested E = NoneApplies (tests E)
 
--- Where no number from 11 to 16 applies, nor 18 or 19, and no stage is too large, low, high and note are shown.
-pub tested-shown : (E : Enquiry) → Tested E → stage-too-large E ≡ false → flux-of E ≡ record { state = 0; low = low-of E; high = high-of E; note = note-of E }
+pub limited : (E : Enquiry) → Tested E → Limited E
+limited E = none-of-first (limits E) (flame-test E)
+
+pub flame-high-enough : (E : Enquiry) → Tested E → flame-too-low E ≡ false
+flame-high-enough E t = none-of-last (limits E) (flame-test E) t .0
+
+pub tested : (E : Enquiry) → Limited E → flame-too-low E ≡ false → Tested E
+tested E w f = none-of-both (limits E) (flame-test E) w (f, tt)
+
+-- Its figures are shown.
+pub shown : (E : Enquiry) → Tested E → flux-of E ≡ record { state = 0; low = low-of E; high = high-of E; note = note-of E }
 unfolding flux-of
-tested-shown E t large = let w = t .limited in rw (w .fuel, w .area, w .method, w .distance, w .face, w .height, w .transmissivity, t .flame, large)
+shown E = none-told refused (tests E) _
+
+-- The tests' numbers are from 11 to 19.
+abbrev Number : Test → Type 0
+Number t = Between 11 (t .number) 19
+
+number : (n : ℕ) → T (leb 11 n) → T (leb n 19) → Between 11 n 19
+number n l h = record { low = leb→le 11 n l; high = leb→le n 19 h }
+
+tests-numbers : (E : Enquiry) → EachTest Number (tests E)
+unfolding limits
+tests-numbers E =
+    (number 11 tt tt, (number 12 tt tt, (number 13 tt tt, (number 14 tt tt, (number 15 tt tt, (number 18 tt tt, (number 19 tt tt, (number 16 tt tt, tt))))))))
+
+-- A state that is none of them is 0, and comes after all tests.
+pub past-flux-tests : (E : Enquiry) (k : ℕ) → (Between 11 k 19 → ⊥) → (flux-of E) .state ≡ k → Tested E × (0 ≡ k)
+unfolding flux-of
+past-flux-tests E k other e =
+    past-tests refused (λ (s : Shown). s .state ≡ k) (tests E) _
+    (each-test Number (λ t. t .applies ≡ true → t .number ≡ k → ⊥) (λ t n _ z. other (rw z at n)) (tests E) (tests-numbers E)) e
+
+pub accepted-tested : (E : Enquiry) → (flux-of E) .state ≡ 0 → Tested E
+accepted-tested E e = past-flux-tests E 0 (λ b. omega (arith, b .low)) e .0
+
+-- No flux is refused by a number above 19.
+pub never-above-19 : (E : Enquiry) (k : ℕ) → 19 < k → flux-of E .state ≡ k → ⊥
+never-above-19 E k l e = let z = past-flux-tests E k (λ b. omega (arith, b .high)) e .1 in omega (arith, z)
 
 -- No refusal has the number 0.
 pub number-above-0 : (why : Turned) → 0 < number-of why
@@ -116,4 +151,3 @@ number-above-0 turned.Face = lit< tt
 number-above-0 turned.Height = lit< tt
 number-above-0 turned.Transmissivity = lit< tt
 number-above-0 turned.LowFlame = lit< tt
-number-above-0 turned.TooLarge = lit< tt

@@ -19,7 +19,7 @@ use Rattle.chain.proofs.Bounds.{Bound, bound}
 use Rattle.chain.proofs.Within.{Held, within}
 use Rattle.chain.proofs.Steps.{diameter-kept}
 use Rattle.chain.proofs.Boxes.{known, passing, passed}
-use Rattle.chain.proofs.AreaBox.{Fuel}
+use Rattle.chain.proofs.Limits.{Fuel}
 use Rattle.chain.proofs.Areas.{areas}
 
 -- ---- the flame
@@ -76,7 +76,11 @@ module _ (area : ℕ) (l : 100 ≤ area) (h : area ≤ 190_000) where
 
   fuel : Fuel kerosene
   fuel =
-      record { least-rate = lit≤ tt; most-rate = lit≤ tt; least-absorption = lit≤ tt; most-absorption = lit≤ tt; heat = lit≤ tt }
+      record {
+        rate = record { low = lit≤ tt; high = lit≤ tt };
+        absorption = record { low = lit≤ tt; high = lit≤ tt };
+        heat = record { low = lit≤ tt; high = lit≤ tt };
+      }
 
   pub radius-held : Held (radius-by answers area) radius-bound
   unfolding radius diameter-of passing B.over bound up down

@@ -1,5 +1,5 @@
--- An exact length in radii, a distance or a height, is as narrow in proportion as the radius is.
--- By the rounding of one quotient. Assumes nothing.
+-- An exact length in radii, a distance or a height, is as narrow in proportion as the radius is; and a length of a quarter of the
+-- diameter is at least 0.4 radii. By the rounding of one quotient. Assumes nothing.
 use mathlib.Core.Path.{_≡_, subst}
 use Prim.Native.Nat.{ℕ, zero, _+_, _*_, _/_, _≤_, _<_}
 use native.Mathlib.Nat.{le-trans, mul-add, add-mul, one-mul, mul-assoc, mul-le-mul-left, mul-le-mul-right}
@@ -9,7 +9,7 @@ use Rattle.pairs.specs.declared.answer.Pair.{Pair}
 use Rattle.pairs.specs.Rounded as R
 use Rattle.pairs.specs.Rounded.{U, up, down, rounded}
 use Rattle.pairs.specs.Answers.{answers}
-use Rattle.pairs.proofs.Rounding.{up-least, down-covers}
+use Rattle.pairs.proofs.Rounding.{up-least, down-covers, down-greatest}
 use Rattle.pairs.proofs.Agreement.{agreement}
 use Rattle.chain.specs.declared.enquiry.Enquiry.{Enquiry}
 use Rattle.chain.specs.Chain.{radius, in-radii, diameter-of}
@@ -50,3 +50,8 @@ radii-near n E D h m w given =
     let d = diameter-of-kept agreement E .same (h .given) in
     let e = in-radii-kept agreement (agreement .constant n 1000) (diameter-of-kept agreement E) .same given in
     rw e (pair-near n (diameter-of rounded E) D (subst (λ (p : Pair). Inside p D) d (h .inside)) m w)
+
+-- A quarter of the diameter is half a radius, less the roundings.
+pub quarter-in-radii : (L D : Pair) → U ≤ D .high → D .high ≤ 4 * L .low → 400_000_000_000 ≤ (in-radii rounded L D) .low
+unfolding in-radii radius R.quotient R.over up
+quarter-in-radii L D m h = down-greatest (L .low * U) (up (D .high) 2) 400_000_000_000 (omega arith) (omega arith)

@@ -13,11 +13,11 @@ use Rattle.pairs.specs.Rounded.{U, up, down, rounded}
 use Rattle.pairs.proofs.Rounding.{up-grows}
 use Rattle.chain.specs.declared.enquiry.Enquiry.{Enquiry}
 use Rattle.chain.specs.Chain.{diameter-of, unabsorbed-of, heat-release-of, burning-rate-of, froude-number-of, flame-1-of, flame-2-of, flame-3-of, flame-of, flame-height-of, emissive-power-of, relative-height-of, relative-elevation-of, relative-distance-of, most-exposed, by-face, factor, factor-at, configuration-factor-of, transmitted, clear-flux, radiant-flux}
-use Rattle.chain.specs.Flux.{outside, fuel-within, flame-too-low, low-of, high-of, flux-of, Shown}
+use Rattle.chain.specs.Flux.{outside, fuel-within, flame-too-low, low-of, high-of, limits, flux-of, Shown}
 use Rattle.chain.proofs.Hypotenuse.{Covered, upright-covered, level-covered}
 use Rattle.chain.proofs.Boxes.{either}
-use Rattle.chain.proofs.Limits.{Tested, transmissivity, accepted-tested}
-use Rattle.chain.proofs.Accepted.{power-inside, shown}
+use Rattle.chain.proofs.Limits.{Tested, numbers, limited, shown, accepted-tested}
+use Rattle.chain.proofs.Unrefused.{power-inside}
 
 -- ---- the factor of a face
 by-face-covered : (face : ℕ) (upright level : Pair) → Covered (by-face rounded face upright level) (by-face rounded 3 upright level)
@@ -80,13 +80,8 @@ facing face E =
     }
 
 facing-tested : (E : Enquiry) (face : ℕ) → outside 1 3 face ≡ false → Tested E → Tested (facing face E)
-unfolding fuel-within flame-too-low flame-height-of flame-of flame-1-of flame-2-of flame-3-of diameter-of unabsorbed-of heat-release-of burning-rate-of froude-number-of
-facing-tested E face f t =
-    let w = t .limited in
-    record {
-      limited = record { fuel = w .fuel; area = w .area; method = w .method; distance = w .distance; face = f; height = w .height; transmissivity = w .transmissivity };
-      flame = t .flame;
-    }
+unfolding limits fuel-within flame-too-low flame-height-of flame-of flame-1-of flame-2-of flame-3-of diameter-of unabsorbed-of heat-release-of burning-rate-of froude-number-of
+facing-tested E face f (t11, (t12, (t13, (t14, (_, (t18, (t19, (t16, _)))))))) = (t11, (t12, (t13, (t14, (f, (t18, (t19, (t16, tt))))))))
 
 -- A face of an enquiry beside its tilted one.
 pub record Exposed (E : Enquiry) (face : ℕ) : Type 0 where
@@ -102,9 +97,9 @@ worst-face E e face f =
     let t = accepted-tested E e in
     let asked = shown (facing face E) (facing-tested E face f t) in
     let tilted = shown (facing 3 E) (facing-tested E 3 refl t) in
-    let power = power-inside E t in
+    let power = power-inside E (limited E t) in
     let bright = le-trans (power .ordered) (power .high) in
-    let most = transmissivity E (t .limited) in
+    let most = numbers E (limited E t) .transmissivity .high in
     let c = factor-covered _ face _ _ _ in
     record {
       accepted = ap (λ (s : Shown). s .state) asked;

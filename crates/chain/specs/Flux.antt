@@ -1,18 +1,18 @@
 -- Document 01, "One flux" under "Turned back": what is shown for an enquiry, on all numbers.
 use Prim.Native.Nat.{ℕ, _*_}
 use mathlib.Core.Bool.{Bool, true, false, _&&_, not}
+use mathlib.Core.List.{List, [], _∷_, _++_}
 use lib.Dec.{leb, ltb, eqb}
 use lib.IntN.{ℤ, natAbs}
 use lib.Signed.{nonNeg}
 use Rattle.pairs.specs.Rounded.{U, down, up, rounded}
-use Rattle.pairs.specs.Figures.{refuse}
-use Rattle.pairs.specs.Answers.{answers}
 use Rattle.chain.specs.declared.enquiry.Enquiry.{Enquiry}
 use Rattle.chain.specs.declared.enquiry.Turned.{Turned}
 use Rattle.chain.specs.declared.enquiry.Turned.the-variants as turned
 use Rattle.chain.specs.declared.enquiry.Flux.{Flux}
 use Rattle.chain.specs.declared.enquiry.Flux.the-variants.{Is, Refused}
 use Rattle.chain.specs.Chain.{diameter-of, flame-height-of, radiant-flux}
+use Rattle.chain.specs.Tests.{Test, test, first-that-applies}
 
 -- State, low, high and note as this paper shows them.
 pub record Shown : Type 0 where
@@ -34,7 +34,6 @@ number-of turned.Face = 15
 number-of turned.Height = 18
 number-of turned.Transmissivity = 19
 number-of turned.LowFlame = 16
-number-of turned.TooLarge = 17
 
 -- This paper's number and values for each case of the enum Flux.
 abbrev pub shown : Flux → Shown
@@ -61,10 +60,6 @@ height-outside height =
 unfoldable pub flame-too-low : Enquiry → Bool
 flame-too-low E = ltb (4 * (flame-height-of rounded E) .low) ((diameter-of rounded E) .high)
 
--- "17, some stage's high end is 2^64 trillionths or more": a pair operation of the chain is refused by 64.
-unfoldable pub stage-too-large : Enquiry → Bool
-stage-too-large E = eqb ((radiant-flux answers E) .number) 64
-
 -- "Low: 1000·q.low as W/m², down; high: 1000·q.high, up. Note 1 for method 1 with low at most 5,000, else 0."; so for method 3,
 -- request 5: "the note is 0".
 unfoldable pub low-of : Enquiry → ℕ
@@ -76,17 +71,25 @@ high-of E = up (1000 * (radiant-flux rounded E) .high) U
 unfoldable pub note-of : Enquiry → ℕ
 note-of E = elim (eqb (E .method) 1 && leb (low-of E) 5000) [ true ↦ 1 | false ↦ 0 ]
 
--- "11 .. 15", then request 1's "18, height outside its limits, after 15 and before 16" and request 3's "19, transmissivity outside
--- its limits, after 18 and before 16"; "in thousandths, .. 1 to 1,000".
+-- "11, a fuel number outside its limits; 12, area; 13, method; 14, rim distance; 15, face"; request 1: "18, height outside its limits,
+-- after 15 and before 16"; request 3: "19, transmissivity outside its limits, after 18 and before 16"; "in thousandths, .. 1 to 1,000".
+unfoldable pub limits : Enquiry → List Test
+limits E =
+    test 11 (not (fuel-within E))
+    ∷ test 12 (outside 100 190_000 (E .area))
+    ∷ test 13 (outside 1 3 (E .method))
+    ∷ test 14 (outside 1_000 200_000 (E .distance))
+    ∷ test 15 (outside 1 3 (E .face))
+    ∷ test 18 (height-outside (E .height))
+    ∷ test 19 (outside 1 1_000 (E .transmissivity))
+    ∷ []
+
+-- "16, flame too low", after them all. Request 13 takes 17 out.
+abbrev pub flame-test : Enquiry → List Test
+flame-test E = test 16 (flame-too-low E) ∷ []
+
+abbrev pub tests : Enquiry → List Test
+tests E = limits E ++ flame-test E
+
 unfoldable pub flux-of : Enquiry → Shown
-flux-of E =
-    refuse (not (fuel-within E)) (refused 11)
-    (refuse (outside 100 190_000 (E .area)) (refused 12)
-    (refuse (outside 1 3 (E .method)) (refused 13)
-    (refuse (outside 1_000 200_000 (E .distance)) (refused 14)
-    (refuse (outside 1 3 (E .face)) (refused 15)
-    (refuse (height-outside (E .height)) (refused 18)
-    (refuse (outside 1 1_000 (E .transmissivity)) (refused 19)
-    (refuse (flame-too-low E) (refused 16)
-    (refuse (stage-too-large E) (refused 17)
-    (record { state = 0; low = low-of E; high = high-of E; note = note-of E })))))))))
+flux-of E = first-that-applies refused (tests E) (record { state = 0; low = low-of E; high = high-of E; note = note-of E })

@@ -1,6 +1,6 @@
 -- Vocabulary of private functions' contracts. No public contract uses it.
 use mathlib.Core.Path.{_≡_}
-use mathlib.Core.Bool.{true, false, _&&_, not}
+use mathlib.Core.Bool.{true, false, _&&_}
 use Prim.Native.Nat.{ℕ, _+_, _*_, _≤_}
 use lib.Dec.{eqb, leb}
 use Rattle.pairs.specs.declared.answer.Pair.{Pair}
@@ -16,17 +16,12 @@ use Rattle.chain.specs.declared.factor.DistanceTerms.{DistanceTerms}
 use Rattle.chain.specs.declared.factor.Upright.{Upright}
 use Rattle.chain.specs.declared.factor.Seen.{Seen}
 use Rattle.chain.specs.Chain as chain
-use Rattle.chain.specs.Flux.{outside, fuel-within, height-outside}
+use Rattle.chain.specs.Tests.{NoneApplies}
+use Rattle.chain.specs.Flux.{limits}
 
 -- No number from 11 to 15 applies, nor 18 or 19.
-pub record Limited (E : Enquiry) : Type 0 where
-  pub fuel : not (fuel-within E) ≡ false
-  pub area : outside 100 190_000 (E .area) ≡ false
-  pub method : outside 1 3 (E .method) ≡ false
-  pub distance : outside 1_000 200_000 (E .distance) ≡ false
-  pub face : outside 1 3 (E .face) ≡ false
-  pub height : height-outside (E .height) ≡ false
-  pub transmissivity : outside 1 1_000 (E .transmissivity) ≡ false
+abbrev pub Limited : Enquiry → Type 0
+Limited E = NoneApplies (limits E)
 
 -- L and E of an enquiry, by its method.
 pub record FlameOf (E : Enquiry) (f : PoolFlame) : Type 0 where

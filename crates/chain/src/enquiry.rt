@@ -30,7 +30,7 @@ pub struct Printed {
     pub note: u8,
 }
 
-// Why an enquiry is turned back: 11 to 15, 18, 19, 16 and 17 of documents 01 and 02, in this order.
+// Why an enquiry is turned back: 11 to 15, 18, 19 and 16 of documents 01 and 02, in this order.
 pub enum Turned {
     Fuel,
     Area,
@@ -40,7 +40,6 @@ pub enum Turned {
     Height,
     Transmissivity,
     LowFlame,
-    TooLarge,
 }
 
 pub enum Flux {

@@ -6,6 +6,7 @@ use super::enquiry::Outside;
 use super::lifted::atan_of;
 use super::lifted::difference_of;
 use super::lifted::exact;
+use super::lifted::pair_of;
 use super::lifted::pi_answer;
 use super::lifted::product_of;
 use super::lifted::quotient_of;
@@ -295,9 +296,6 @@ pub fn factor(l: u64, e: u64, face: u8) -> Factor
     if outside(face as u64, 1, 3) {
         return Factor::Refused(Outside::Face);
     }
-    let Answer::Is(p) = factor_at(true, face, exact(l), exact(0), exact(e)) else {
-        // inside the limits no operation refuses
-        return Factor::Refused(Outside::Face);
-    };
+    let p = pair_of(factor_at(true, face, exact(l), exact(0), exact(e)));
     Factor::Is(p)
 }

@@ -11,6 +11,7 @@ use super::enquiry::Turned;
 use super::factor::factor_at;
 use super::lifted::exact;
 use super::lifted::over_of;
+use super::lifted::pair_of;
 use super::lifted::product_of;
 use super::lifted::quotient_of;
 use super::lifted::times_of;
@@ -28,16 +29,6 @@ ghost use Rattle.pairs.specs.Answers.{answers};
 ghost use Rattle.chain.specs.Chain as chain;
 ghost use Rattle.chain.specs.Flux.{flux-of, number-of, shown};
 ghost use Rattle.chain.specs.Private.{Limited, FlameOf, Prints};
-
-// The pair of an answer, [0, 0] of a refusal.
-fn pair_of(a: Answer) -> Pair
-    ensures { λ r. ⌜ r ≡ (figures a) .pair ⌝ }
-{
-    let Answer::Is(p) = a else {
-        return Pair { low: 0, high: 0 };
-    };
-    p
-}
 
 // Whether 4·L.low is under D.high.
 fn too_low(diameter: Answer, height: Answer) -> bool
@@ -108,10 +99,7 @@ fn flux_within(e: Enquiry) -> Flux
         return Flux::Refused(Turned::LowFlame);
     }
     let method = e.method;
-    let Answer::Is(q) = radiant_flux(e, across, burning) else {
-        // no operation refuses in an accepted chain
-        return Flux::Refused(Turned::TooLarge);
-    };
+    let q = pair_of(radiant_flux(e, across, burning));
     Flux::Is(printed(q, method))
 }
 
@@ -128,7 +116,6 @@ pub fn number(why: Turned) -> u8
         Turned::Height => 18,
         Turned::Transmissivity => 19,
         Turned::LowFlame => 16,
-        Turned::TooLarge => 17,
     }
 }
 

@@ -139,3 +139,13 @@ pub(crate) fn ln_ten_answer() -> Answer
 {
     Answer::Is(ln_ten())
 }
+
+// The pair of an answer, [0, 0] of a refusal.
+pub(crate) fn pair_of(a: Answer) -> Pair
+    ensures { λ r. ⌜ r ≡ (figures a) .pair ⌝ }
+{
+    let Answer::Is(p) = a else {
+        return Pair { low: 0, high: 0 };
+    };
+    p
+}

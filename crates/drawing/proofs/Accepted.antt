@@ -5,8 +5,8 @@ use native.Mathlib.Omega.{arith}
 use Rattle.pairs.specs.Rounded.{up, down}
 use Rattle.chain.specs.declared.enquiry.Enquiry.{Enquiry}
 use Rattle.chain.specs.Flux.{low-of, high-of, flux-of}
-use Rattle.chain.proofs.Limits.{accepted-tested}
-use Rattle.chain.proofs.Accepted.{accepted, shown}
+use Rattle.chain.proofs.Limits.{limited, shown, accepted-tested}
+use Rattle.chain.proofs.Unrefused.{unrefused}
 
 pub record Small (low high : ℕ) : Type 0 where
   pub ordered : low ≤ high
@@ -16,5 +16,5 @@ pub small : (E : Enquiry) → flux-of E .state ≡ 0 → Small (flux-of E .low) 
 unfolding low-of high-of up down
 small E e =
     let t = accepted-tested E e in
-    let q = accepted E t in
+    let q = unrefused E (limited E t) in
     rw (shown E t) (record { ordered = omega (arith, q .ordered); most = omega (arith, q .high) })

@@ -6,8 +6,8 @@ use native.Mathlib.Omega.{arith}
 use Rattle.pairs.specs.Rounded.{U, up, down}
 use Rattle.chain.specs.declared.enquiry.Enquiry.{Enquiry}
 use Rattle.chain.specs.Flux.{low-of, high-of}
-use Rattle.chain.proofs.Limits.{Tested, between, accepted-tested}
-use Rattle.chain.proofs.Accepted as chain
+use Rattle.chain.proofs.Limits.{Tested, numbers, limited, shown, accepted-tested}
+use Rattle.chain.proofs.Unrefused.{unrefused}
 use Rattle.widths.proofs.Printed.{widths, within-20}
 use Rattle.exact.specs.Fraction.{_⊑_, whole, _⊗_}
 use Rattle.exact.specs.Depth.{times}
@@ -25,25 +25,21 @@ watts-up : (b : ℕ) → trillionths b ⊗ whole 1000 ⊑ whole (up (1000 * b) U
 unfolding whole trillionths _⊗_ up
 watts-up b = record { cross = omega arith }
 
-limits : {E : Enquiry} → Tested E → Limits E
-limits {E} t =
-    let area = between 100 190_000 (E .area) (t .limited .area) in
-    record {
-      least-area = area .low;
-      most-area = area .high;
-      least-distance = between 1_000 200_000 (E .distance) (t .limited .distance) .low;
-    }
+spans : (E : Enquiry) → Tested E → Limits E
+spans E t =
+    let n = numbers E (limited E t) in
+    record { least-area = n .area .low; most-area = n .area .high; least-distance = n .distance .low }
 
 pub demand-3 : Demand-3
 unfolding exact-bracket times low-of high-of
 demand-3 E accepted n deep =
     let tested = accepted-tested E accepted in
-    let given = chain.accepted E tested .flux-given in
-    let meets = rw given at (radiant-flux-meets E (limits tested) n deep) in
-    let shown = chain.shown E tested in
+    let given = unrefused E (limited E tested) .flux-given in
+    let meets = rw given at (radiant-flux-meets E (spans E tested) n deep) in
+    let seen = shown E tested in
     record {
       divisors-above-0 = meets .sound .defined;
-      low-below = rw shown (watts-down _ ⟫ ⊗-mono (meets .overlap refl .low) ⊑-refl);
-      high-above = rw shown (⊗-mono (meets .overlap refl .high) ⊑-refl ⟫ watts-up _);
+      low-below = rw seen (watts-down _ ⟫ ⊗-mono (meets .overlap refl .low) ⊑-refl);
+      high-above = rw seen (⊗-mono (meets .overlap refl .high) ⊑-refl ⟫ watts-up _);
       narrow = omega (arith, widths E accepted .near, within-20 (E .method) (E .face));
     }

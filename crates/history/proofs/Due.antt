@@ -6,13 +6,12 @@ use mathlib.Core.Option.{Option, none, some}
 use mathlib.Core.List.{List}
 use Prim.Native.Nat.{ℕ, zero, suc, _≤_, _<_}
 use native.Mathlib.Omega.{arith}
-use lib.Dec.{leb, ltb}
+use lib.Dec.{leb, ltb, lit<}
 use borrow.Author.Tests.{lt-ltb, leb-true, le-leb, lt-leb}
 use Rattle.pairs.specs.Figures.{refuse}
 use Rattle.chain.specs.Flux.{outside, flux-of}
 use Rattle.chain.specs.declared.enquiry.Enquiry.{Enquiry}
-use Rattle.chain.proofs.Limits.{between, inside}
-use Rattle.chain.proofs.Accepted.{no-other-state}
+use Rattle.chain.proofs.Limits.{between, inside, never-above-19}
 use Rattle.register.specs.declared.places.Register.{Register}
 use Rattle.register.specs.Places.{vacant, has}
 use Rattle.register.specs.Sums.{how-many}
@@ -59,7 +58,7 @@ only-full h number E = by-tests (outside 1 255 number || is-lit (lit-with number
     by-tests : (a b : Bool) → leb 32 (afresh h .burning) ≡ b → refuse a 51 (refuse b 52 (flux-of E .state)) ≡ 52 → 32 ≤ afresh h .burning
     by-tests true b f e = absurd (omega (arith, e))
     by-tests false true f e = leb-true 32 (afresh h .burning) f
-    by-tests false false f e = let z = no-other-state E 52 (λ n l u other k. omega arith) e in absurd (omega (arith, z))
+    by-tests false false f e = absurd (never-above-19 E 52 (lit< tt) e)
 
 -- ---- for a number from 1 to 255
 module _ (h : List Answered) (number : ℕ) (E : Enquiry) (least : 1 ≤ number) (most : number ≤ 255) where

@@ -32,7 +32,7 @@ after-passed a f h = by-number (a .number) (a .pair) h
 -- A refusal's test failed, and what follows stands.
 pub refuse-passed : (b : Bool) (n : ℕ) (f : Figures) → (refuse b (refused (suc n)) f) .number ≡ 0 → (T b → ⊥) × (refuse b (refused (suc n)) f ≡ f)
 refuse-passed b n f h =
-    let failed = past-test (λ (f : Figures). f .number ≡ 0) b (λ e. omega (arith, e)) h .0 in
+    let failed = past-test (λ (f : Figures). f .number ≡ 0) b (λ _ e. omega (arith, e)) h .0 in
     ((λ t. subst T failed t), rw failed)
 
 pub fitting-passed : (p : Pair) → (fitting p) .number ≡ 0 → fitting p ≡ given p
@@ -107,7 +107,7 @@ admit-two-same : {r : Pair} (p q : Pair) (f : Figures) → (f .number ≡ 0 → 
 admit-two-same p q f h = admit-same p (admit q f) (admit-same q f h)
 
 past-admit : (p : Pair) (f : Figures) → (admit p f) .number ≡ 0 → f .number ≡ 0
-past-admit p f z = past-test (λ (f : Figures). f .number ≡ 0) (ltb (p .high) (p .low)) (λ e. omega (arith, e)) z .1
+past-admit p f z = past-test (λ (f : Figures). f .number ≡ 0) (ltb (p .high) (p .low)) (λ _ e. omega (arith, e)) z .1
 
 -- A test that lets the pair itself through.
 let-through : {a : Figures} {p : Pair} (b : Bool) → Agrees a p → Agrees (after a (admit (a .pair) (refuse b (refused 63) (given (a .pair))))) p

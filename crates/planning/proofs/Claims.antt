@@ -12,7 +12,8 @@ use Rattle.planning.specs.StandOff.{Shown, refused, flux-at, keeps-from,
 use Rattle.planning.specs.Claims.{Kept, KeptFrom, Answered, Over, Zeros, Claims}
 use Rattle.planning.proofs.Outcomes.{flux-first, over, kept, by-farthest}
 use Rattle.planning.proofs.Nearest.{found, at-most, enough, keeps-each, keeps-all, keeps-farthest, keeps-nearer}
-use Rattle.planning.proofs.SameState.{same-state, never-above-19}
+use Rattle.chain.proofs.Limits.{never-above-19}
+use Rattle.planning.proofs.SameState.{same-state}
 
 refused-zeros : {n : ℕ} → Zeros (refused n)
 refused-zeros = record { decimetres = refl; low = refl; high = refl }

@@ -16,7 +16,8 @@ use Rattle.planning.specs.Distance.{radius-of}
 use Rattle.planning.specs.Grid.{grid-outside, squares, centre-distance, rim-distance}
 use Rattle.planning.specs.FreePlace.{Shown, refused, own-refusal, is-free, shown-at, walked, free-place-of}
 use Rattle.planning.specs.PlaceClaims.{InLimits, Free, FirstFree, NoneFree, PlaceZeros, NeverLonger, PlaceClaims}
-use Rattle.planning.proofs.SameState.{never-14, never-above-19}
+use Rattle.chain.proofs.Limits.{never-above-19}
+use Rattle.planning.proofs.SameState.{never-14}
 use Rattle.planning.proofs.GridLimits.{not-outside}
 use Rattle.planning.proofs.Radius.{area-covered}
 use Rattle.planning.proofs.Walk as walk

@@ -9,7 +9,7 @@ use native.Mathlib.Omega.{arith}
 use lib.Dec.{lit≤, lit<}
 use lib.IntN.{ℤ, pos}
 use Rattle.pairs.proofs.Search.{self-square, root-down-is}
-use Rattle.chain.specs.Flux.{outside, fuel-within, height-outside, flux-of}
+use Rattle.chain.specs.Flux.{outside, fuel-within, height-outside, limits, flux-of}
 use Rattle.chain.proofs.Examples.{each-accepted}
 use Rattle.planning.specs.declared.scenario.Scenario.{Scenario}
 use Rattle.planning.specs.declared.grid.Grid.{Grid}
@@ -91,5 +91,5 @@ no-rows-42 S limit G e = claims .outside S limit G (λ g. omega (arith, e, g .le
 
 -- 11, a burning rate of 9, from any limit and grid in its limits.
 pub low-rate-11 : (S : Scenario) (limit : ℕ) (G : Grid) → InLimits G → S .rate ≡ 9 → free-place-of S limit G .state ≡ 11
-unfolding flux-of fuel-within
+unfolding flux-of limits fuel-within
 low-rate-11 S limit G g e = claims .flux-next S limit G g 1_000 10 (le-refl _) (lit≤ tt) (rw e)

@@ -9,7 +9,7 @@ use lib.Dec.{lit≤}
 use borrow.Author.Tests.{lt-ltb}
 use Rattle.chain.specs.Flux as flux
 use Rattle.chain.specs.Flux.{flux-of}
-use Rattle.chain.proofs.Limits.{Between, between, accepted-tested}
+use Rattle.chain.proofs.Limits.{Between, numbers, limited, accepted-tested}
 use Rattle.planning.specs.declared.scenario.Scenario.{Scenario}
 use Rattle.planning.specs.declared.grid.Grid.{Grid}
 use Rattle.planning.specs.declared.distance.RimMillimetres.{RimMillimetres}
@@ -33,7 +33,8 @@ module _ (S : Scenario) (rim : RimMillimetres) (i : InSpan rim) (a : flux.Shown)
   -- Where it is accepted the area is in its limits.
   pub area-within : a .state ≡ 0 → Between 100 (S .area) 190_000
   area-within z =
-      between 100 190_000 (S .area) (accepted-tested (at-distance S (rim .0)) (ap (λ (s : flux.Shown). s .state) (sym e) ∙ z) .limited .area)
+      let E = at-distance S (rim .0) in
+      numbers E (limited E (accepted-tested E (ap (λ (s : flux.Shown). s .state) (sym e) ∙ z))) .area
 
 module _ (S : Scenario) (limit : ℕ) (G : Grid) where
   pub is-42 : grid-outside G ≡ true → free-place-of S limit G ≡ refused 42

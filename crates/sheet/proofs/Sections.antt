@@ -120,7 +120,7 @@ holding s start size most n e =
 
 -- A test that was passed on the way to state 0.
 passed : (b : Bool) (k : ℕ) (x o : Outcome) → refuse b (refused (suc k)) x ≡ o → o .state ≡ 0 → (b ≡ false) × (x ≡ o)
-passed b k x o e z = past-test (λ (y : Outcome). y ≡ o) b (λ w. let n : suc k ≡ o .state = ap (λ (y : Outcome). y .state) w in omega arith) e
+passed b k x o e z = past-test (λ (y : Outcome). y ≡ o) b (λ _ w. let n : suc k ≡ o .state = ap (λ (y : Outcome). y .state) w in omega arith) e
 
 section-passed :
     (s : List ℕ) (start size most : ℕ) (rest o : Outcome) → reading.section s start size most rest ≡ o → o .state ≡ 0

@@ -13,14 +13,15 @@ use Rattle.chain.proofs.Bounds.{Bound, bound}
 use Rattle.chain.proofs.Within.{Held, Within, within}
 use Rattle.chain.proofs.FaceBounds.{face-bound, by-face-within}
 use Rattle.chain.proofs.Boxes.{known}
-use Rattle.chain.proofs.Configuration.{relative-height-bound, elevation-bound}
+use Rattle.chain.proofs.Configuration.{elevation-bound}
 use Rattle.chain.proofs.Flame.{flame-width}
 use Rattle.chain.proofs.FactorSweep.{Factors}
+use Rattle.widths.proofs.HighFlame.{high-flame-bound}
 use Rattle.widths.proofs.FineSweep.{vertical-bound, horizontal-bound, vertical-bound-at-base, horizontal-bound-at-base, any-height, at-the-base, Distance, narrow-height, factors-at, level-factors}
 
 -- l, h and e of one enquiry: where they lie, and how wide they are.
 pub record Placement (l h e : Figures) : Type 0 where
-  pub height : Held l relative-height-bound
+  pub height : Held l high-flame-bound
   pub height-near : l .pair .high ≤ l .pair .low + flame-width (e .pair .low)
   pub elevation : Held h elevation-bound
   pub distance : Distance e

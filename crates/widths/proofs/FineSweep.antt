@@ -11,9 +11,10 @@ use Rattle.chain.proofs.Bounds.{Bound}
 use Rattle.chain.proofs.Within.{Held}
 use Rattle.chain.proofs.Opened.{opened}
 use Rattle.chain.proofs.Radii.{thin}
-use Rattle.chain.proofs.Configuration.{relative-height-bound, elevation-bound, relative-distance-bound}
+use Rattle.chain.proofs.Configuration.{elevation-bound, relative-distance-bound}
 use Rattle.chain.proofs.Flame.{flame-width}
 use Rattle.chain.proofs.FactorSweep.{Grid, box-test, height-sweep, factor-sweep, Placed, Factors, factors}
+use Rattle.widths.proofs.HighFlame.{high-flame-bound}
 
 -- Where e lies, and how wide it is.
 pub record Distance (e : Figures) : Type 0 where
@@ -59,8 +60,8 @@ horizontal-bound-at-base = record { least = 0; most = 600_000_000_000; width = 2
 abbrev pub at-the-base : Grid
 at-the-base =
     record {
-      lowest = relative-height-bound .least;
-      highest = relative-height-bound .most;
+      lowest = high-flame-bound .least;
+      highest = high-flame-bound .most;
       distance-width = thin;
       height-width = flame-width;
       next-distance = λ e. e + e / 2;
@@ -99,7 +100,7 @@ factors-at b s h most width =
 -- l, as wide as e allows.
 abbrev pub narrow-height : ℕ → Bound
 narrow-height e =
-    record { least = relative-height-bound .least; most = relative-height-bound .most; width = flame-width e; safe = true }
+    record { least = high-flame-bound .least; most = high-flame-bound .most; width = flame-width e; safe = true }
 
 pub level-factors : {l e : Figures} → Distance e → Held l (narrow-height (e .pair .low)) → Factors at-the-base l e
 level-factors {e = e} s h =

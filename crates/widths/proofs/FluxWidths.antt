@@ -13,7 +13,7 @@ use Rattle.pairs.specs.Rounded.{rounded}
 use Rattle.pairs.specs.Answers.{answers}
 use Rattle.pairs.proofs.Agreement.{agreement}
 use Rattle.chain.specs.declared.enquiry.Enquiry.{Enquiry}
-use Rattle.chain.specs.Chain.{factor, factor-at, flame-height-of, emissive-power-of, relative-height-of, relative-elevation-of, relative-distance-of, configuration-factor-of, clear-flux, radiant-flux}
+use Rattle.chain.specs.Chain.{factor, factor-at, emissive-power-of, relative-height-of, relative-elevation-of, relative-distance-of, configuration-factor-of, clear-flux, radiant-flux}
 use Rattle.chain.proofs.Bounds as B
 use Rattle.chain.proofs.Bounds.{Bound}
 use Rattle.chain.proofs.Within.{Held, within}
@@ -22,10 +22,11 @@ use Rattle.chain.proofs.Boxes.{known, every, each, either}
 use Rattle.chain.proofs.Opened.{opened}
 use Rattle.chain.proofs.FaceBounds.{face-bound}
 use Rattle.chain.proofs.Flame.{emissive-bound-1, emissive-bound-2, emissive-bound-3, emissive-bound}
-use Rattle.chain.proofs.Limits.{Tested, between, transmissivity}
-use Rattle.chain.proofs.Accepted as chain
+use Rattle.chain.proofs.Limits.{Tested, numbers, limited}
+use Rattle.chain.proofs.Unrefused as chain
 use Rattle.chain.proofs.Haze.{hazy-near}
 use Rattle.chain.proofs.Level.{clear-level}
+use Rattle.widths.proofs.HighFlame.{high-flame, high-flame-near}
 use Rattle.widths.proofs.FactorWidths.{Placement, level-bound, above-bound, below-bound, level-within, above-within, below-within}
 
 -- ---- bounds of E·F
@@ -90,21 +91,18 @@ height-bound from-the-base-up face = elim from-the-base-up [ true ↦ above-boun
 
 module _ (E : Enquiry) (t : Tested E) where
   placement : Placement (relative-height-of answers E) (relative-elevation-of answers E) (relative-distance-of answers E)
-  unfolding relative-height-of flame-height-of
   placement =
-      let w = t .limited in
-      let d = between 1_000 200_000 (E .distance) (w .distance) in
-      let s = chain.area-of E (w .fuel) (w .area) in
-      let f = chain.high-flame E t in
+      let w = limited E t in
+      let d = numbers E w .distance in
       record {
-        height = f .height;
-        height-near = f .height-near (d .low) (d .high);
-        elevation = chain.bounded E t .elevation;
-        distance = record { held = s .distance (d .low) (d .high); near = s .distance-near (d .low) (d .high) };
+        height = high-flame E t;
+        height-near = high-flame-near E t;
+        elevation = chain.elevation-held E w;
+        distance = record { held = chain.distance-held E w; near = chain.area E w .distance-near (d .low) (d .high) };
       }
 
   power-held : Held (emissive-power-of answers E) (emissive-bound (E .method))
-  power-held = chain.bounded E t .power
+  power-held = chain.power-held E (limited E t)
 
   at-height : (from-the-base-up : Bool) → Held (answers .product (emissive-power-of answers E) (factor-at answers from-the-base-up (E .face) (relative-height-of answers E) (relative-elevation-of answers E) (relative-distance-of answers E))) (clear-bound (E .method) (height-bound from-the-base-up (E .face)))
   unfolding clear-bound
@@ -121,7 +119,7 @@ module _ (E : Enquiry) (t : Tested E) where
   flux-near =
       let up = nonNeg (E .height) in
       let i = chain.agreed-inside (clear-flux-kept agreement E) (at-height up) in
-      hazy-near E (transmissivity E (t .limited)) _ (omega (arith, i .near, within-width up))
+      hazy-near E (numbers E (limited E t) .transmissivity .high) _ (omega (arith, i .near, within-width up))
 
   level-held : Held (answers .product (emissive-power-of answers E) (factor answers (E .face) (relative-height-of answers E) (relative-distance-of answers E))) (clear-bound (E .method) (level-bound (E .face)))
   unfolding clear-bound
@@ -131,4 +129,4 @@ module _ (E : Enquiry) (t : Tested E) where
   unfolding level-width-of
   level-near level =
       let K = agreement .product (emissive-power-of-kept agreement E) (factor-kept agreement (E .face) (relative-height-of-kept agreement E) (relative-distance-of-kept agreement E)) in
-      hazy-near E (transmissivity E (t .limited)) _ (rw (clear-level E level) (chain.agreed-inside K level-held .near))
+      hazy-near E (numbers E (limited E t) .transmissivity .high) _ (rw (clear-level E level) (chain.agreed-inside K level-held .near))

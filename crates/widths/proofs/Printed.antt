@@ -9,8 +9,8 @@ use Rattle.chain.proofs.Boxes.{either}
 use Rattle.chain.proofs.Opened.{opened}
 use Rattle.chain.proofs.FaceBounds.{face-bound}
 use Rattle.chain.proofs.Flame.{emissive-bound}
-use Rattle.chain.proofs.Limits.{between, accepted-tested}
-use Rattle.chain.proofs.Accepted.{accepted, shown}
+use Rattle.chain.proofs.Limits.{numbers, limited, shown, accepted-tested}
+use Rattle.chain.proofs.Unrefused.{unrefused}
 use Rattle.widths.specs.Narrow.{by-number, at-any-height, at-height-0, Widths}
 use Rattle.widths.proofs.FactorWidths.{level-bound, above-bound, below-bound}
 use Rattle.widths.proofs.FluxWidths.{clear-bound, width-of, level-width-of, flux-near, level-near}
@@ -56,13 +56,14 @@ pub widths : Widths
 unfolding low-of high-of
 widths E e =
     let t = accepted-tested E e in
-    let m = between 1 3 (E .method) (t .limited .method) in
-    let f = between 1 3 (E .face) (t .limited .face) in
+    let n = numbers E (limited E t) in
+    let m = n .method in
+    let f = n .face in
     let w = any-height (E .method) (E .face) (m .low) (m .high) (f .low) (f .high) in
     let v = level (E .method) (E .face) (m .low) (m .high) (f .low) (f .high) in
     let s = shown E t in
     record {
-      ordered = rw s (in-order _ _ (accepted E t .ordered));
+      ordered = rw s (in-order _ _ (unrefused E (limited E t) .ordered));
       near = rw s (omega (arith, outwards _ _ (width-of (E .method) (E .face) + 1) (flux-near E t), w));
       near-level = λ z. rw s (omega (arith, outwards _ _ (level-width-of (E .method) (E .face) + 1) (level-near E t z), v));
     }

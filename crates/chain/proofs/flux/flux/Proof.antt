@@ -1,46 +1,24 @@
 -- `flux` meets its contract: 11 to 15, 18 and 19 in their order, then what is within the limits.
 -- Assumes nothing.
-use mathlib.Core.Path.{_≡_, sym, ap, _∙_}
-use mathlib.Core.Bool.{Bool, true, false, not}
-use Prim.Native.Nat.{_<_, _^_}
+use mathlib.Core.Path.{_≡_, refl, sym, ap, _∙_}
+use mathlib.Core.Bool.{Bool, not}
+use Prim.Native.Nat.{ℕ, _<_, _^_}
 use lib.IntN.{ℤ}
 use lib.Signed.{mag}
 use mir.Syntax.{w32}
 use mir.Val.{hbits, toZ, ofZ}
 use mir.Facts.{toZ-ofZ}
 use Rattle.chain.specs.declared.enquiry.Enquiry.{Enquiry}
-use Rattle.chain.specs.Flux.{refused, outside, fuel-within, height-outside, flux-of}
+use Rattle.chain.specs.Flux.{refused, height-outside, limits, tests, flux-of}
+use Rattle.chain.proofs.FirstThatApplies.{FirstAt, told}
 use borrow.Author.Needs.{needs, sfits-of}
 use Rattle.chain.proofs.flux.flux.Statement.{statement}
 use Rattle.chain.proofs.flux.flux.Tie as tie
 
-is-11 : (E : Enquiry) → not (fuel-within E) ≡ true → refused 11 ≡ flux-of E
+-- the number of the first test that applies
+is : (E : Enquiry) (k n : ℕ) → FirstAt k (tests E) n → refused n ≡ flux-of E
 unfolding flux-of
-is-11 E a = rw a
-
-is-12 : (E : Enquiry) → not (fuel-within E) ≡ false → outside 100 190_000 (E .area) ≡ true → refused 12 ≡ flux-of E
-unfolding flux-of
-is-12 E a b = rw (a, b)
-
-is-13 : (E : Enquiry) → not (fuel-within E) ≡ false → outside 100 190_000 (E .area) ≡ false → outside 1 3 (E .method) ≡ true → refused 13 ≡ flux-of E
-unfolding flux-of
-is-13 E a b c = rw (a, b, c)
-
-is-14 : (E : Enquiry) → not (fuel-within E) ≡ false → outside 100 190_000 (E .area) ≡ false → outside 1 3 (E .method) ≡ false → outside 1_000 200_000 (E .distance) ≡ true → refused 14 ≡ flux-of E
-unfolding flux-of
-is-14 E a b c d = rw (a, b, c, d)
-
-is-15 : (E : Enquiry) → not (fuel-within E) ≡ false → outside 100 190_000 (E .area) ≡ false → outside 1 3 (E .method) ≡ false → outside 1_000 200_000 (E .distance) ≡ false → outside 1 3 (E .face) ≡ true → refused 15 ≡ flux-of E
-unfolding flux-of
-is-15 E a b c d e = rw (a, b, c, d, e)
-
-is-18 : (E : Enquiry) → not (fuel-within E) ≡ false → outside 100 190_000 (E .area) ≡ false → outside 1 3 (E .method) ≡ false → outside 1_000 200_000 (E .distance) ≡ false → outside 1 3 (E .face) ≡ false → height-outside (E .height) ≡ true → refused 18 ≡ flux-of E
-unfolding flux-of
-is-18 E a b c d e f = rw (a, b, c, d, e, f)
-
-is-19 : (E : Enquiry) → not (fuel-within E) ≡ false → outside 100 190_000 (E .area) ≡ false → outside 1 3 (E .method) ≡ false → outside 1_000 200_000 (E .distance) ≡ false → outside 1 3 (E .face) ≡ false → height-outside (E .height) ≡ false → outside 1 1_000 (E .transmissivity) ≡ true → refused 19 ≡ flux-of E
-unfolding flux-of
-is-19 E a b c d e f g = rw (a, b, c, d, e, f, g)
+is E k n h = sym (told refused k (tests E) n _ h)
 
 -- the height, read back from its bits
 read : (z : ℤ) {b o : Bool} → mag z < 2 ^ hbits w32 → b ≡ height-outside (toZ w32 (ofZ w32 z)) → b ≡ o → height-outside z ≡ o
@@ -50,7 +28,10 @@ fuel-within-requires : tie.Need-fuel-within-requires
 fuel-within-requires c κs = search needs
 
 returns : tie.Need-returns
-returns c = is-11 _ (ap not (sym (c .before .fuel-within .ensures)) ∙ c .if1 .taken)
+unfolding limits
+returns c =
+    is _ 0 11
+    (ap not (sym (c .before .fuel-within .ensures)) ∙ c .if1 .taken, refl)
 
 cast-outside : tie.Need-cast-outside
 cast-outside c = search needs
@@ -59,8 +40,11 @@ outside-requires : tie.Need-outside-requires
 outside-requires c κs = search needs
 
 returns-2 : tie.Need-returns-2
-returns-2 c = let e1 = c .before .before .before in
-    is-12 _ (ap not (sym (e1 .before .fuel-within .ensures)) ∙ e1 .if1 .left) (sym (c .before .outside .ensures) ∙ c .if2 .taken)
+unfolding limits
+returns-2 c =
+    let e1 = c .before .before .before in
+    is _ 1 12
+    (ap not (sym (e1 .before .fuel-within .ensures)) ∙ e1 .if1 .left, (sym (c .before .outside .ensures) ∙ c .if2 .taken, refl))
 
 cast-outside-2 : tie.Need-cast-outside-2
 cast-outside-2 c = search needs
@@ -69,9 +53,12 @@ outside-requires-2 : tie.Need-outside-requires-2
 outside-requires-2 c κs = search needs
 
 returns-3 : tie.Need-returns-3
-returns-3 c = let e2 = c .before .before .before in
+unfolding limits
+returns-3 c =
+    let e2 = c .before .before .before in
     let e1 = e2 .before .before .before in
-    is-13 _ (ap not (sym (e1 .before .fuel-within .ensures)) ∙ e1 .if1 .left) (sym (e2 .before .outside .ensures) ∙ e2 .if2 .left) (sym (c .before .outside2 .ensures) ∙ c .if3 .taken)
+    is _ 2 13
+    (ap not (sym (e1 .before .fuel-within .ensures)) ∙ e1 .if1 .left, (sym (e2 .before .outside .ensures) ∙ e2 .if2 .left, (sym (c .before .outside2 .ensures) ∙ c .if3 .taken, refl)))
 
 cast-outside-3 : tie.Need-cast-outside-3
 cast-outside-3 c = search needs
@@ -80,10 +67,13 @@ outside-requires-3 : tie.Need-outside-requires-3
 outside-requires-3 c κs = search needs
 
 returns-4 : tie.Need-returns-4
-returns-4 c = let e3 = c .before .before .before in
+unfolding limits
+returns-4 c =
+    let e3 = c .before .before .before in
     let e2 = e3 .before .before .before in
     let e1 = e2 .before .before .before in
-    is-14 _ (ap not (sym (e1 .before .fuel-within .ensures)) ∙ e1 .if1 .left) (sym (e2 .before .outside .ensures) ∙ e2 .if2 .left) (sym (e3 .before .outside2 .ensures) ∙ e3 .if3 .left) (sym (c .before .outside3 .ensures) ∙ c .if4 .taken)
+    is _ 3 14
+    (ap not (sym (e1 .before .fuel-within .ensures)) ∙ e1 .if1 .left, (sym (e2 .before .outside .ensures) ∙ e2 .if2 .left, (sym (e3 .before .outside2 .ensures) ∙ e3 .if3 .left, (sym (c .before .outside3 .ensures) ∙ c .if4 .taken, refl))))
 
 cast-outside-4 : tie.Need-cast-outside-4
 cast-outside-4 c = search needs
@@ -92,22 +82,28 @@ outside-requires-4 : tie.Need-outside-requires-4
 outside-requires-4 c κs = search needs
 
 returns-5 : tie.Need-returns-5
-returns-5 c = let e4 = c .before .before .before in
+unfolding limits
+returns-5 c =
+    let e4 = c .before .before .before in
     let e3 = e4 .before .before .before in
     let e2 = e3 .before .before .before in
     let e1 = e2 .before .before .before in
-    is-15 _ (ap not (sym (e1 .before .fuel-within .ensures)) ∙ e1 .if1 .left) (sym (e2 .before .outside .ensures) ∙ e2 .if2 .left) (sym (e3 .before .outside2 .ensures) ∙ e3 .if3 .left) (sym (e4 .before .outside3 .ensures) ∙ e4 .if4 .left) (sym (c .before .outside4 .ensures) ∙ c .if5 .taken)
+    is _ 4 15
+    (ap not (sym (e1 .before .fuel-within .ensures)) ∙ e1 .if1 .left, (sym (e2 .before .outside .ensures) ∙ e2 .if2 .left, (sym (e3 .before .outside2 .ensures) ∙ e3 .if3 .left, (sym (e4 .before .outside3 .ensures) ∙ e4 .if4 .left, (sym (c .before .outside4 .ensures) ∙ c .if5 .taken, refl)))))
 
 height-outside-requires : tie.Need-height-outside-requires
 height-outside-requires c κs = search needs
 
 returns-6 : tie.Need-returns-6
-returns-6 c = let e5 = c .before .before .before in
+unfolding limits
+returns-6 c =
+    let e5 = c .before .before .before in
     let e4 = e5 .before .before .before in
     let e3 = e4 .before .before .before in
     let e2 = e3 .before .before .before in
     let e1 = e2 .before .before .before in
-    is-18 _ (ap not (sym (e1 .before .fuel-within .ensures)) ∙ e1 .if1 .left) (sym (e2 .before .outside .ensures) ∙ e2 .if2 .left) (sym (e3 .before .outside2 .ensures) ∙ e3 .if3 .left) (sym (e4 .before .outside3 .ensures) ∙ e4 .if4 .left) (sym (e5 .before .outside4 .ensures) ∙ e5 .if5 .left) (read _ (c .before .before .struct-told .given .1 .1 .1 .1 .1 .1 .1 .0 .1) (c .before .height-outside .ensures) (c .if6 .taken))
+    is _ 5 18
+    (ap not (sym (e1 .before .fuel-within .ensures)) ∙ e1 .if1 .left, (sym (e2 .before .outside .ensures) ∙ e2 .if2 .left, (sym (e3 .before .outside2 .ensures) ∙ e3 .if3 .left, (sym (e4 .before .outside3 .ensures) ∙ e4 .if4 .left, (sym (e5 .before .outside4 .ensures) ∙ e5 .if5 .left, (read _ (c .before .before .struct-told .given .1 .1 .1 .1 .1 .1 .1 .0 .1) (c .before .height-outside .ensures) (c .if6 .taken), refl))))))
 
 cast-outside-5 : tie.Need-cast-outside-5
 cast-outside-5 c = search needs
@@ -116,30 +112,27 @@ outside-requires-5 : tie.Need-outside-requires-5
 outside-requires-5 c κs = search needs
 
 returns-7 : tie.Need-returns-7
-returns-7 c = let e6 = c .before .before .before in
+unfolding limits
+returns-7 c =
+    let e6 = c .before .before .before in
     let e5 = e6 .before .before .before in
     let e4 = e5 .before .before .before in
     let e3 = e4 .before .before .before in
     let e2 = e3 .before .before .before in
     let e1 = e2 .before .before .before in
-    is-19 _ (ap not (sym (e1 .before .fuel-within .ensures)) ∙ e1 .if1 .left) (sym (e2 .before .outside .ensures) ∙ e2 .if2 .left) (sym (e3 .before .outside2 .ensures) ∙ e3 .if3 .left) (sym (e4 .before .outside3 .ensures) ∙ e4 .if4 .left) (sym (e5 .before .outside4 .ensures) ∙ e5 .if5 .left) (read _ (e6 .before .before .struct-told .given .1 .1 .1 .1 .1 .1 .1 .0 .1) (e6 .before .height-outside .ensures) (e6 .if6 .left)) (sym (c .before .outside5 .ensures) ∙ c .if7 .taken)
+    is _ 6 19
+    (ap not (sym (e1 .before .fuel-within .ensures)) ∙ e1 .if1 .left, (sym (e2 .before .outside .ensures) ∙ e2 .if2 .left, (sym (e3 .before .outside2 .ensures) ∙ e3 .if3 .left, (sym (e4 .before .outside3 .ensures) ∙ e4 .if4 .left, (sym (e5 .before .outside4 .ensures) ∙ e5 .if5 .left, (read _ (e6 .before .before .struct-told .given .1 .1 .1 .1 .1 .1 .1 .0 .1) (e6 .before .height-outside .ensures) (e6 .if6 .left), (sym (c .before .outside5 .ensures) ∙ c .if7 .taken, refl)))))))
 
 flux-within-requires : tie.Need-flux-within-requires
-flux-within-requires c κs = let e6 = c .before .before .before in
+unfolding limits
+flux-within-requires c κs =
+    let e6 = c .before .before .before in
     let e5 = e6 .before .before .before in
     let e4 = e5 .before .before .before in
     let e3 = e4 .before .before .before in
     let e2 = e3 .before .before .before in
     let e1 = e2 .before .before .before in
-    record {
-      fuel = ap not (sym (e1 .before .fuel-within .ensures)) ∙ e1 .if1 .left;
-      area = sym (e2 .before .outside .ensures) ∙ e2 .if2 .left;
-      method = sym (e3 .before .outside2 .ensures) ∙ e3 .if3 .left;
-      distance = sym (e4 .before .outside3 .ensures) ∙ e4 .if4 .left;
-      face = sym (e5 .before .outside4 .ensures) ∙ e5 .if5 .left;
-      height = read _ (e6 .before .before .struct-told .given .1 .1 .1 .1 .1 .1 .1 .0 .1) (e6 .before .height-outside .ensures) (e6 .if6 .left);
-      transmissivity = sym (c .before .outside5 .ensures) ∙ c .if7 .left;
-    }
+    (ap not (sym (e1 .before .fuel-within .ensures)) ∙ e1 .if1 .left, (sym (e2 .before .outside .ensures) ∙ e2 .if2 .left, (sym (e3 .before .outside2 .ensures) ∙ e3 .if3 .left, (sym (e4 .before .outside3 .ensures) ∙ e4 .if4 .left, (sym (e5 .before .outside4 .ensures) ∙ e5 .if5 .left, (read _ (e6 .before .before .struct-told .given .1 .1 .1 .1 .1 .1 .1 .0 .1) (e6 .before .height-outside .ensures) (e6 .if6 .left), (sym (c .before .outside5 .ensures) ∙ c .if7 .left, tt)))))))
 
 returns-8 : tie.Need-returns-8
 returns-8 c = search needs

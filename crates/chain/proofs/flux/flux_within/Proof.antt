@@ -1,65 +1,65 @@
--- `flux_within` meets its contract: inside the limits no operation before the flame test refuses, and in an accepted chain none does.
+-- `flux_within` meets its contract: inside the limits no operation refuses, and only the flame test is left.
 -- Assumes nothing.
-use mathlib.Core.Path.{_≡_, sym, ap, ap₂, _∙_}
+use mathlib.Core.Path.{_≡_, refl, sym, ap, ap₂, _∙_}
 use Prim.Native.Nat.{ℕ, _*_, _≤_}
-use mathlib.Core.Bool.{Bool, true, false, _&&_}
-use Rattle.chain.specs.declared.enquiry.Enquiry.{Enquiry}
+use mathlib.Core.Bool.{true, false, _&&_}
 use lib.Dec.{eqb, leb, ltb}
 use Rattle.pairs.specs.declared.answer.Pair.{Pair}
 use Rattle.pairs.specs.Rounded.{U, down, up, rounded}
-use Rattle.pairs.specs.Figures.{Figures, figures}
+use Rattle.pairs.specs.Figures.{Figures}
 use Rattle.pairs.specs.Answers.{answers}
-use Rattle.chain.specs.Chain as chain
-use Rattle.chain.specs.Flux.{Shown, refused, flame-too-low, low-of, high-of, note-of, flux-of}
-use Rattle.pairs.specs.declared.answer.Answer.{Answer}
-use Rattle.pairs.specs.declared.answer.Answer.the-variants.{Is}
+use Rattle.chain.specs.declared.enquiry.Enquiry.{Enquiry}
 use Rattle.chain.specs.declared.enquiry.Printed.{Printed}
+use Rattle.chain.specs.Chain as chain
+use Rattle.chain.specs.Tests.{first-that-applies}
+use Rattle.chain.specs.Flux.{Shown, refused, flame-too-low, low-of, high-of, note-of, limits, flame-test, flux-of}
 use Rattle.chain.specs.Private.{Limited, Prints}
-use Rattle.chain.proofs.Limits.{Tested, between}
-use Rattle.chain.proofs.Accepted.{within-limits-not-refused, accepted, shown}
-use Rattle.chain.proofs.Given.{pair-given, never-refused}
+use Rattle.chain.proofs.FirstThatApplies.{told, in-two, none-told}
+use Rattle.chain.proofs.Limits.{numbers, tested, shown}
+use Rattle.chain.proofs.Unrefused.{unrefused}
 use borrow.Author.Needs.{needs}
 use Rattle.chain.proofs.flux.flux_within.Statement.{statement}
 use Rattle.chain.proofs.flux.flux_within.Tie as tie
 
-low-flame : (E : Enquiry) → Limited E → flame-too-low E ≡ true → refused 16 ≡ flux-of E
-unfolding flux-of
-low-flame E w e = rw (w .fuel, w .area, w .method, w .distance, w .face, w .height, w .transmissivity, e)
+module _ (E : Enquiry) (w : Limited E) where
+  -- the tests of the numbers do not apply, so the flame test is left
+  within-limits : flux-of E ≡ first-that-applies refused (flame-test E) (record { state = 0; low = low-of E; high = high-of E; note = note-of E })
+  unfolding flux-of
+  within-limits = in-two refused (limits E) (flame-test E) _ ∙ none-told refused (limits E) _ w
 
--- what is printed of the chain's pair
-as-shown :
-    (E : Enquiry) (q : Pair) (p : Printed) → Tested E → q ≡ chain.radiant-flux rounded E → Prints q (E .method) p
-    → _≡_ {A = Shown} (record { state = 0; low = p .low; high = p .high; note = p .note }) (flux-of E)
-unfolding low-of high-of note-of
-as-shown E q p t e h =
-    (λ i. record { state = 0; low = h .low i; high = h .high i; note = h .note i })
-    ∙ ap (λ (p : Pair). record { state = 0; low = down (1000 * p .low) U; high = up (1000 * p .high) U; note = elim (eqb (E .method) 1 && leb (down (1000 * p .low) U) 5000) as (λ _. ℕ) [ true ↦ 1 | false ↦ 0 ] }) e
-    ∙ sym (shown E t)
+  low-flame : flame-too-low E ≡ true → refused 16 ≡ flux-of E
+  low-flame e = sym (within-limits ∙ told refused 0 (flame-test E) 16 _ (e, refl))
 
--- the chain's pair where nothing refuses
-worked : (E : Enquiry) (a : Answer) (q : Pair) → Tested E → figures a ≡ chain.radiant-flux answers E → a ≡ Is q → q ≡ chain.radiant-flux rounded E
-worked E a q t e f = pair-given a (chain.radiant-flux rounded E) q (e ∙ accepted E t .flux-given) f
+  -- what is printed of the chain's pair
+  as-shown :
+      (q : Pair) (p : Printed) → flame-too-low E ≡ false → q ≡ chain.radiant-flux rounded E → Prints q (E .method) p
+      → _≡_ {A = Shown} (record { state = 0; low = p .low; high = p .high; note = p .note }) (flux-of E)
+  unfolding low-of high-of note-of
+  as-shown q p f e h =
+      (λ i. record { state = 0; low = h .low i; high = h .high i; note = h .note i })
+      ∙ ap (λ (p : Pair). record { state = 0; low = down (1000 * p .low) U; high = up (1000 * p .high) U; note = elim (eqb (E .method) 1 && leb (down (1000 * p .low) U) 5000) as (λ _. ℕ) [ true ↦ 1 | false ↦ 0 ] }) e
+      ∙ sym (shown E (tested E w f))
 
-small : (E : Enquiry) (q : Pair) → Tested E → q ≡ chain.radiant-flux rounded E → (q .low ≤ q .high) × (q .high ≤ 6_300 * U)
-small E q t e = let a = accepted E t in rw e (a .ordered, a .high)
+  -- the chain's pair: nothing refuses
+  worked : (a : Figures) (q : Pair) → a ≡ chain.radiant-flux answers E → q ≡ a .pair → q ≡ chain.radiant-flux rounded E
+  worked a q e f = f ∙ ap (λ (x : Figures). x .pair) (e ∙ unrefused E w .flux-given)
+
+  small : (q : Pair) → q ≡ chain.radiant-flux rounded E → (q .low ≤ q .high) × (q .high ≤ 6_300 * U)
+  small q e = let u = unrefused E w in rw e (u .ordered, u .high)
 
 -- D and L are those of the enquiry
 diameter-is : (E : Enquiry) (D : Figures) → D ≡ chain.diameter answers (answers .constant (4 * E .area) 100) → D ≡ chain.diameter-of answers E
 unfolding chain.diameter-of
 diameter-is E D d = d
 
-module _ (E : Enquiry) (w : Limited E) (D L : Figures) (d : D ≡ chain.diameter-of answers E) (l : L ≡ chain.flame-height-of answers E) where
-  too-low-is : flame-too-low E ≡ ltb (4 * L .pair .low) (D .pair .high)
-  unfolding flame-too-low
-  too-low-is =
-      let u = within-limits-not-refused E (w .fuel) (w .area) in
-      ap₂ (λ (x y : Figures). ltb (4 * x .pair .low) (y .pair .high)) (sym (l ∙ u .flame-height-given)) (sym (d ∙ u .diameter-given))
-
-  all-tests-passed : {b : Bool} → b ≡ ltb (4 * L .pair .low) (D .pair .high) → b ≡ false → Tested E
-  all-tests-passed e f = record { limited = w; flame = too-low-is ∙ sym e ∙ f }
+too-low-is : (E : Enquiry) → Limited E → (D L : Figures) → D ≡ chain.diameter-of answers E → L ≡ chain.flame-height-of answers E → flame-too-low E ≡ ltb (4 * L .pair .low) (D .pair .high)
+unfolding flame-too-low
+too-low-is E w D L d l =
+    let u = unrefused E w in
+    ap₂ (λ (x y : Figures). ltb (4 * x .pair .low) (y .pair .high)) (sym (l ∙ u .flame-height-given)) (sym (d ∙ u .diameter-given))
 
 diameter-requires : tie.Need-diameter-requires
-diameter-requires c κs = between 100 190_000 _ (c .pre .area) .high
+diameter-requires c κs = numbers _ (c .pre) .area .high
 
 flame-requires : tie.Need-flame-requires
 flame-requires c κs = (diameter-is _ _ (c .diameter .ensures), c .before .pre)
@@ -77,29 +77,22 @@ radiant-flux-requires : tie.Need-radiant-flux-requires
 radiant-flux-requires c κs = let h = c .before .before in
     (diameter-is _ _ (h .before .diameter .ensures), (h .flame .ensures, h .before .before .pre))
 
-enum-known-q : tie.Need-enum-known-q
-enum-known-q c = search needs
-
-returns-2 : tie.Need-returns-2
-returns-2 c = let f = c .before in
-    let e = f .before in
-    let h = e .before .before in
-    let t = all-tests-passed _ (h .before .before .pre) _ _ (diameter-is _ _ (h .before .diameter .ensures)) (h .flame .ensures .height) (e .before .too-low .ensures) (e .if1 .left) in
-    absurd (never-refused (f .radiant-flux .result) _ (f .radiant-flux .ensures ∙ accepted _ t .flux-given) (c .match .keys2))
+pair-of-requires : tie.Need-pair-of-requires
+pair-of-requires c κs = search needs
 
 printed-requires : tie.Need-printed-requires
-printed-requires c κs = let f = c .before .before .before in
-    let e = f .before in
-    let h = e .before .before in
-    let t = all-tests-passed _ (h .before .before .pre) _ _ (diameter-is _ _ (h .before .diameter .ensures)) (h .flame .ensures .height) (e .before .too-low .ensures) (e .if1 .left) in
-    small _ _ t (worked _ _ _ t (f .radiant-flux .ensures) (c .before .q .given .1))
+printed-requires c κs = let f = c .before in
+    let w = f .before .before .before .before .before .pre in
+    small _ w _ (worked _ w _ _ (f .radiant-flux .ensures) (c .pair-of .ensures))
 
-returns-3 : tie.Need-returns-3
-returns-3 c = let f = c .before .before .before .before in
+returns-2 : tie.Need-returns-2
+returns-2 c = let p = c .before in
+    let f = p .before in
     let e = f .before in
     let h = e .before .before in
-    let t = all-tests-passed _ (h .before .before .pre) _ _ (diameter-is _ _ (h .before .diameter .ensures)) (h .flame .ensures .height) (e .before .too-low .ensures) (e .if1 .left) in
-    as-shown _ _ _ t (worked _ _ _ t (f .radiant-flux .ensures) (c .before .before .q .given .1)) (c .printed .ensures)
+    let w = h .before .before .pre in
+    let test = too-low-is _ w _ _ (diameter-is _ _ (h .before .diameter .ensures)) (h .flame .ensures .height) in
+    as-shown _ w _ _ (test ∙ sym (e .before .too-low .ensures) ∙ e .if1 .left) (worked _ w _ _ (f .radiant-flux .ensures) (p .pair-of .ensures)) (c .printed .ensures)
 
 pub flux-within-spec : {M : Type 1} → statement M
 flux-within-spec =
@@ -110,7 +103,6 @@ flux-within-spec =
     too-low-requires
     returns
     radiant-flux-requires
-    enum-known-q
-    returns-2
+    pair-of-requires
     printed-requires
-    returns-3)
+    returns-2)

@@ -14,9 +14,9 @@ use Rattle.pairs.specs.Answers as A
 use Rattle.chain.specs.Chain as chain
 use Rattle.chain.specs.declared.enquiry.Enquiry.{Enquiry}
 use Rattle.chain.specs.Private.{Limited, Spaced}
-use Rattle.chain.proofs.Limits.{between, height}
+use Rattle.chain.proofs.Limits.{numbers}
 use Rattle.chain.proofs.Constants.{thousandths}
-use Rattle.chain.proofs.Accepted.{distance-spaced}
+use Rattle.chain.proofs.Unrefused.{distance-spaced}
 use borrow.Author.Needs.{needs, sfits-of}
 use Rattle.chain.proofs.flux.radiant_flux.Statement.{statement}
 use Rattle.chain.proofs.flux.radiant_flux.Tie as tie
@@ -40,11 +40,11 @@ in-radii n D {k} e h q x r = q ∙ ap₂ A.quotient (x ∙ thousandths k (omega 
 module _ (E : Enquiry) (w : Limited E) {k : ℕ} {q x R : Figures} where
   distance-is : k ≡ E .distance → q ≡ A.quotient x R → x ≡ given (ends (k * 1_000_000_000) (k * 1_000_000_000)) → R ≡ chain.radius A.answers (chain.diameter-of A.answers E) → q ≡ chain.relative-distance-of A.answers E
   unfolding chain.relative-distance-of
-  distance-is e = in-radii _ _ e (rw e (between 1_000 200_000 (E .distance) (w .distance) .high))
+  distance-is e = in-radii _ _ e (rw e (numbers E w .distance .high))
 
   elevation-is : k ≡ natAbs (E .height) → q ≡ A.quotient x R → x ≡ given (ends (k * 1_000_000_000) (k * 1_000_000_000)) → R ≡ chain.radius A.answers (chain.diameter-of A.answers E) → q ≡ chain.relative-elevation-of A.answers E
   unfolding chain.relative-elevation-of
-  elevation-is e = in-radii _ _ e (let h = height (E .height) (w .height) in omega arith)
+  elevation-is e = in-radii _ _ e (let h = numbers E w .height in omega arith)
 
 cast-rim-distance : tie.Need-cast-rim-distance
 cast-rim-distance c = search needs

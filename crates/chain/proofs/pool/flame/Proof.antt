@@ -9,7 +9,7 @@ use Rattle.chain.specs.declared.enquiry.Enquiry.{Enquiry}
 use Rattle.chain.specs.declared.pool.PoolFlame.{PoolFlame}
 use Rattle.chain.specs.Chain as chain
 use Rattle.chain.specs.Private.{Limited, FlameOf}
-use Rattle.chain.proofs.Limits.{between, fuel}
+use Rattle.chain.proofs.Limits.{numbers}
 use borrow.Author.Needs.{needs}
 use Rattle.chain.proofs.pool.flame.Statement.{statement}
 use Rattle.chain.proofs.pool.flame.Tie as tie
@@ -29,7 +29,7 @@ module _ (E : Enquiry) where
   picked-3 e = rw e
 
   else-2 : Limited E → (E .method ≡ 3 → ⊥) → (E .method ≡ 1 → ⊥) → E .method ≡ 2
-  else-2 w not-3 not-1 = let m = between 1 3 (E .method) (w .method) in omega (arith, m .low, m .high)
+  else-2 w not-3 not-1 = let m = numbers E w .method in omega (arith, m .low, m .high)
 
 -- Q is that of the enquiry
 heat-is : (E : Enquiry) {D X Q : Figures} → D ≡ chain.diameter-of A.answers E → X ≡ chain.unabsorbed A.answers (E .absorption) D → Q ≡ chain.burning A.answers (A.constant (E .rate * E .heat * E .area) 1000) X → Q ≡ chain.heat-release-of A.answers E
@@ -49,7 +49,7 @@ unabsorbed-requires : tie.Need-unabsorbed-requires
 unabsorbed-requires c κs = search needs
 
 burning-requires : tie.Need-burning-requires
-burning-requires c κs = let f = fuel _ (c .before .before .before .pre .1 .fuel) in omega (arith, f .most-rate)
+burning-requires c κs = let n = numbers _ (c .before .before .before .pre .1) in omega (arith, n .fuel .rate .high)
 
 froude-number-requires : tie.Need-froude-number-requires
 froude-number-requires c κs = search needs
@@ -76,8 +76,8 @@ returns c =
 
 heat-release-requires : tie.Need-heat-release-requires
 heat-release-requires c κs = let w = c .before .before .before .pre .1 in
-    let f = fuel _ (w .fuel) in
-    (f .most-rate, f .heat, between 100 190_000 _ (w .area) .high)
+    let n = numbers _ w in
+    (n .fuel .rate .high, n .fuel .heat .high, n .area .high)
 
 flame-height-requires : tie.Need-flame-height-requires
 flame-height-requires c κs = search needs

@@ -5,8 +5,8 @@ use Rattle.pairs.specs.declared.answer.Answer.{Answer}
 use Rattle.pairs.specs.Figures.{figures}
 use Rattle.pairs.proofs.Lifted.{no-pair}
 use borrow.Author.Needs.{needs}
-use Rattle.chain.proofs.flux.pair_of.Statement.{statement}
-use Rattle.chain.proofs.flux.pair_of.Tie as tie
+use Rattle.chain.proofs.lifted.pair_of.Statement.{statement}
+use Rattle.chain.proofs.lifted.pair_of.Tie as tie
 
 enum-known-a : tie.Need-enum-known-a
 enum-known-a c = search needs
