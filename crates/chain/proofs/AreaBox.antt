@@ -50,9 +50,12 @@ heat-box a b least = burning bounds (thousandths-box (1_000 * a) (75_000 * b)) (
 unfoldable pub mass-box : ℕ → Bound
 mass-box least = burning bounds (thousandths-box 10 150) (unabsorbed-box least)
 
--- Boxes of heat release rates and of burning rates.
-abbrev pub next-rate : ℕ → ℕ
-next-rate q = q + q / 3
+-- Heat release rates by a third, burning rates by a half.
+abbrev pub next-heat : ℕ → ℕ
+next-heat q = q + q / 3
+
+abbrev pub next-mass : ℕ → ℕ
+next-mass m = m + m / 2
 
 -- L of method 3 from M.
 abbrev pub smoky-height : Bound → Bound → Bound
@@ -82,9 +85,9 @@ area-tests b D Q M P =
     ∷ passing elevation-bound (in-radii bounds (thousandths-box 0 20_000) D)
     ∷ passing emissive-bound-1 (emissive-power-1 bounds D)
     ∷ Q .safe
-    ∷ sweep (rate-test (flame-height bounds D) (emissive-power-2 bounds D) emissive-bound-2 D (Q .width) (burnt-from D) (allowed D)) next-rate 100 (Q .least) (suc (Q .most))
+    ∷ sweep (rate-test (flame-height bounds D) (emissive-power-2 bounds D) emissive-bound-2 D (Q .width) (burnt-from D) (allowed D)) next-heat 100 (Q .least) (suc (Q .most))
     ∷ M .safe
-    ∷ sweep (rate-test (smoky-height D) (λ _ _. P) emissive-bound-3 D (M .width) (burnt-from D) (allowed D)) next-rate 40 (M .least) (suc (M .most))
+    ∷ sweep (rate-test (smoky-height D) (λ _ _. P) emissive-bound-3 D (M .width) (burnt-from D) (allowed D)) next-mass 40 (M .least) (suc (M .most))
     ∷ []
 
 abbrev pub pool-tests : ℕ → ℕ → Bound → List Bool
@@ -218,7 +221,7 @@ area-tested a b t n l u E e F =
       flame =
           by-method E (passed emissive-bound-1 (c₅ .1 .1 .0) (emissive-power-1-kept within dw))
           (flame-swept E D d (allowed D) near-enough _ Q q least (burning-near _ E least (omega arith) (X .0) (X .1) (q .given)) _ _ _ (from-heat E D dw)
-          emissive-bound-2 next-rate 100 (c₈ .1 .0))
+          emissive-bound-2 next-heat 100 (c₈ .1 .0))
           (flame-swept E D d (allowed D) near-enough _ M m least (burning-near _ E least (omega arith) (X .0) (X .1) (m .given)) _ _ _ (from-mass E D dw)
-          emissive-bound-3 next-rate 40 (c₈ .1 .1 .1 .0));
+          emissive-bound-3 next-mass 40 (c₈ .1 .1 .1 .0));
     }

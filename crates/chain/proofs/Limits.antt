@@ -16,7 +16,7 @@ use Rattle.chain.specs.declared.enquiry.Turned.the-variants as turned
 use Rattle.chain.specs.Tests.{Test, NoneApplies}
 use Rattle.chain.specs.Flux.{Shown, refused, number-of, outside, fuel-within, height-outside, flame-too-low, low-of, high-of, note-of, limits, flame-test, tests, flux-of}
 use Rattle.chain.specs.Private.{Limited}
-use Rattle.chain.proofs.FirstThatApplies.{EachTest, each-test, none-of-first, none-of-last, none-of-both, none-told, past-tests}
+use Rattle.chain.proofs.FirstThatApplies.{EachTest, each-test, none-of-first, none-of-last, none-of-both, in-two, none-told, past-tests}
 
 pub record Between (least n most : ℕ) : Type 0 where
   pub low : least ≤ n
@@ -119,13 +119,13 @@ shown E = none-told refused (tests E) _
 abbrev Number : Test → Type 0
 Number t = Between 11 (t .number) 19
 
-number : (n : ℕ) → T (leb 11 n) → T (leb n 19) → Between 11 n 19
-number n l h = record { low = leb→le 11 n l; high = leb→le n 19 h }
+number : {n : ℕ} → T (leb 11 n) → T (leb n 19) → Between 11 n 19
+number {n} l h = record { low = leb→le 11 n l; high = leb→le n 19 h }
 
 tests-numbers : (E : Enquiry) → EachTest Number (tests E)
 unfolding limits
 tests-numbers E =
-    (number 11 tt tt, (number 12 tt tt, (number 13 tt tt, (number 14 tt tt, (number 15 tt tt, (number 18 tt tt, (number 19 tt tt, (number 16 tt tt, tt))))))))
+    (number tt tt, (number tt tt, (number tt tt, (number tt tt, (number tt tt, (number tt tt, (number tt tt, (number tt tt, tt))))))))
 
 -- A state that is none of them is 0, and comes after all tests.
 pub past-flux-tests : (E : Enquiry) (k : ℕ) → (Between 11 k 19 → ⊥) → (flux-of E) .state ≡ k → Tested E × (0 ≡ k)
@@ -133,6 +133,14 @@ unfolding flux-of
 past-flux-tests E k other e =
     past-tests refused (λ (s : Shown). s .state ≡ k) (tests E) _
     (each-test Number (λ t. t .applies ≡ true → t .number ≡ k → ⊥) (λ t n _ z. other (rw z at n)) (tests E) (tests-numbers E)) e
+
+-- One that the limits do not tell comes after them.
+pub past-limits : (E : Enquiry) (k : ℕ) → EachTest (λ t. t .number ≡ k → ⊥) (limits E) → (flux-of E) .state ≡ k → Limited E
+unfolding flux-of
+past-limits E k other e =
+    past-tests refused (λ (s : Shown). s .state ≡ k) (limits E) _
+    (each-test (λ t. t .number ≡ k → ⊥) (λ t. t .applies ≡ true → t .number ≡ k → ⊥) (λ t n _ z. n z) (limits E) other)
+    (rw (in-two refused (limits E) (flame-test E) _) at e) .0
 
 pub accepted-tested : (E : Enquiry) → (flux-of E) .state ≡ 0 → Tested E
 accepted-tested E e = past-flux-tests E 0 (λ b. omega (arith, b .low)) e .0

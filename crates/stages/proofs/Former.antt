@@ -1,0 +1,34 @@
+-- What was shown for an enquiry before request 13, with 17 as the last test, is what is shown: "An enquiry outside the limits must get the
+-- number it got before." By the law that no operation refuses where no test applies. Assumes nothing.
+use mathlib.Core.Path.{_≡_, refl}
+use mathlib.Core.Bool.{Bool, not}
+use lib.Dec.{eqb}
+use Rattle.pairs.specs.Figures.{refuse}
+use Rattle.pairs.specs.Answers.{answers}
+use Rattle.chain.specs.declared.enquiry.Enquiry.{Enquiry}
+use Rattle.chain.specs.Chain.{radiant-flux}
+use Rattle.chain.specs.Flux.{Shown, refused, outside, fuel-within, height-outside, flame-too-low, low-of, high-of, note-of, limits, tests, flux-of}
+use Rattle.chain.proofs.FirstThatApplies.{same-tests}
+use Rattle.chain.proofs.Limits.{limited}
+use Rattle.chain.proofs.Unrefused.{unrefused}
+
+-- "17, some stage's high end is 2^64 trillionths or more": a pair operation of the chain is refused by 64.
+abbrev stage-too-large : Enquiry → Bool
+stage-too-large E = eqb ((radiant-flux answers E) .number) 64
+
+unfoldable pub former-flux-of : Enquiry → Shown
+former-flux-of E =
+    refuse (not (fuel-within E)) (refused 11)
+    (refuse (outside 100 190_000 (E .area)) (refused 12)
+    (refuse (outside 1 3 (E .method)) (refused 13)
+    (refuse (outside 1_000 200_000 (E .distance)) (refused 14)
+    (refuse (outside 1 3 (E .face)) (refused 15)
+    (refuse (height-outside (E .height)) (refused 18)
+    (refuse (outside 1 1_000 (E .transmissivity)) (refused 19)
+    (refuse (flame-too-low E) (refused 16)
+    (refuse (stage-too-large E) (refused 17)
+    (record { state = 0; low = low-of E; high = high-of E; note = note-of E })))))))))
+
+pub nothing-moved : (E : Enquiry) → former-flux-of E ≡ flux-of E
+unfolding former-flux-of flux-of limits
+nothing-moved E = same-tests refused (λ s t. s ≡ t) (λ _. refl) (tests E) _ _ (λ none. rw (unrefused E (limited E none) .flux-given))

@@ -1,0 +1,3 @@
+-- Request 13: the stages of a chain, and what is claimed of them.
+pub mod Stages
+pub mod Claims
