@@ -2,7 +2,7 @@
 -- haze, and whether or not its flame is too low. The pair it gives is ordered and fits. From the sweeps, by the agreement of answers
 -- and rounded pairs. Assumes nothing.
 use mathlib.Core.Path.{_≡_, subst}
-use mathlib.Core.Bool.{true, false}
+use mathlib.Core.Bool.{true}
 use Prim.Native.Nat.{ℕ, _*_, _≤_}
 use native.Mathlib.Nat.{le-trans, mul-le-mul-left}
 use native.Mathlib.Omega.{arith}
@@ -15,7 +15,7 @@ use Rattle.pairs.specs.Figures.{Figures, given}
 use Rattle.pairs.specs.Answers.{answers}
 use Rattle.pairs.proofs.Agreement.{Agrees, agreed, agreement}
 use Rattle.chain.specs.declared.enquiry.Enquiry.{Enquiry}
-use Rattle.chain.specs.Chain.{diameter-of, flame-of, flame-height-of, emissive-power-of, relative-height-of, relative-elevation-of, relative-distance-of, configuration-factor-of, transmitted, clear-flux, radiant-flux}
+use Rattle.chain.specs.Chain.{diameter-of, flame-height-of, emissive-power-of, relative-height-of, relative-elevation-of, relative-distance-of, configuration-factor-of, transmitted, clear-flux, radiant-flux}
 use Rattle.chain.specs.Private.{Limited, Spaced}
 use Rattle.chain.proofs.Bounds as B
 use Rattle.chain.proofs.Bounds.{Bound, bound}

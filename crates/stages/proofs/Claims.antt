@@ -61,7 +61,7 @@ same-pairs =
 pub claims : Claims
 claims =
     record {
-      no-stage-too-large = λ E s. radiant-flux-kept below E .below (not-refused E s);
+      no-stage-too-large = λ E s. omega (arith, radiant-flux-kept below E .below (not-refused E s));
       no-operation-refused = not-refused;
       same-chain = radiant-flux-kept same-pairs;
     }

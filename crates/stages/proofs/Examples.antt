@@ -1,10 +1,9 @@
--- The claims are not of no enquiry: that of case M in document 01 passes the limits, and its flame is too low, by methods 1 and 2, on
--- each face, at each height, through each haze. By method 3 no flame inside the limits is. Its flame is bounded by computation. Assumes nothing.
+-- The claims speak of low flames too: the enquiry of case M in document 01 passes the limits, and its flame is too low, by methods 1
+-- and 2, on each face, at each height, through each haze. The flame is bounded by computation. Assumes nothing.
 use mathlib.Core.Path.{_≡_, refl, ap, _∙_}
 use mathlib.Core.Bool.{true, false, _&&_}
 use mathlib.Core.Logic.{inr}
-use Prim.Native.Nat.{ℕ, suc, _*_, _≤_, _<_}
-use native.Mathlib.Nat.{le-trans, mul-le-mul-left}
+use Prim.Native.Nat.{ℕ, _*_, _<_}
 use native.Mathlib.Omega.{arith}
 use lib.IntN.{ℤ}
 use lib.Dec.{T, ltb, ltb→lt}
@@ -13,10 +12,10 @@ use borrow.Author.Tests.{lt-ltb}
 use Rattle.pairs.specs.Rounded.{rounded}
 use Rattle.pairs.specs.Answers.{answers}
 use Rattle.chain.specs.declared.enquiry.Enquiry.{Enquiry}
-use Rattle.chain.specs.Chain.{Flame, diameter-of, flame-1-of, flame-2-of, flame-of, flame-height-of}
+use Rattle.chain.specs.Chain.{diameter-of, flame-1-of, flame-2-of, flame-of, flame-height-of}
 use Rattle.chain.specs.Flux.{Shown, refused, outside, fuel-within, height-outside, flame-too-low, limits, flame-test, flux-of}
 use Rattle.chain.specs.Private.{Limited}
-use Rattle.chain.proofs.Bounds.{Bound, bounds}
+use Rattle.chain.proofs.Bounds.{bounds}
 use Rattle.chain.proofs.Within.{within}
 use Rattle.chain.proofs.Steps.{diameter-of-kept, flame-height-of-kept}
 use Rattle.chain.proofs.Opened.{opened}

@@ -1,7 +1,6 @@
 -- A flame that is not too low: l is at least 0.4, and as wide as e allows. From the flame test, by the law of a quarter of the
 -- diameter. Assumes nothing.
-use mathlib.Core.Path.{_≡_, refl}
-use mathlib.Core.Bool.{true, false}
+use mathlib.Core.Bool.{true}
 use Prim.Native.Nat.{_+_, _*_, _≤_}
 use native.Mathlib.Omega.{arith}
 use borrow.Author.Tests.{ltb-false}
