@@ -1,5 +1,5 @@
--- The steps up to the flame at one box of areas: inside the limits nothing refuses before the flame test, and the flame of each
--- method is shown as every flame must be. What the box's tests say. Assumes nothing.
+-- D, e, a height in radii and the flame of each method at one box of areas: inside the limits nothing refuses, and the flame is shown
+-- as every flame must be. What the box's tests say. Assumes nothing.
 use mathlib.Core.Path.{_≡_}
 use mathlib.Core.Bool.{Bool, true}
 use mathlib.Core.List.{List, [], _∷_}
@@ -51,10 +51,10 @@ unfoldable pub mass-box : ℕ → Bound
 mass-box least = burning bounds (thousandths-box 10 150) (unabsorbed-box least)
 
 -- Heat release rates by a third, burning rates by a half.
-abbrev pub next-heat : ℕ → ℕ
+abbrev next-heat : ℕ → ℕ
 next-heat q = q + q / 3
 
-abbrev pub next-mass : ℕ → ℕ
+abbrev next-mass : ℕ → ℕ
 next-mass m = m + m / 2
 
 -- L of method 3 from M.
@@ -145,9 +145,6 @@ unabsorbed-boxed E least h below =
 -- ---- one box of areas
 pub record Area (E : Enquiry) : Type 0 where
   pub diameter : Held (diameter-of answers E) diameter-bound
-  pub unabsorbed : Held (unabsorbed-of answers E) exp-bound
-  pub heat-release : (heat-release-of answers E) .number ≡ 0
-  pub burning-rate : (burning-rate-of answers E) .number ≡ 0
   pub distance : 1_000 ≤ E .distance → E .distance ≤ 200_000 → Held (relative-distance-of answers E) relative-distance-bound
   pub distance-near : 1_000 ≤ E .distance → E .distance ≤ 200_000 → (relative-distance-of answers E) .pair .high ≤ (relative-distance-of answers E) .pair .low + thin ((relative-distance-of answers E) .pair .low)
   pub elevation : (n : ℕ) → n ≤ 20_000 → Held (in-radii answers (answers .constant n 1000) (diameter-of answers E)) elevation-bound
@@ -212,9 +209,6 @@ area-tested a b t n l u E e F =
     let m = burning-kept within (known rate) x .where-safe (c₈ .1 .1 .0) in
     record {
       diameter = passed diameter-bound (c .1 .0) dw;
-      unabsorbed = X .0;
-      heat-release = q .given;
-      burning-rate = m .given;
       distance = λ lo hi. passed relative-distance-bound (c₅ .0) (distance lo hi);
       distance-near = λ lo hi. radii-near (E .distance) E D d (p .least) narrow (distance lo hi .where-safe (s .safe) .given);
       elevation = λ n small. passed elevation-bound (c₅ .1 .0) (in-radii-kept within (known (thousandths-held n 0 20_000 zero-le small (lit≤ tt))) dw);

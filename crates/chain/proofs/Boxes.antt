@@ -28,10 +28,6 @@ pub in-box : {f : Figures} (a b w : ℕ) → f .number ≡ 0 → a ≤ f .pair .
 in-box a b w z l u o n =
     record { where-safe = λ _. record { given = z; inside = record { low = l; ordered = o; high = omega arith; near = n } } }
 
--- A bounded answer, in the box where its low end lies.
-pub boxed : {f : Figures} {c : Bound} (a b : ℕ) → Held f c → a ≤ f .pair .low → f .pair .low ≤ b → Within f (box a b (c .width))
-boxed {f} {c} a b h l u = in-box a b (c .width) (h .given) l u (h .inside .ordered) (h .inside .near)
-
 pub known : {f : Figures} {b : Bound} → Held f b → Within f b
 known h = record { where-safe = λ _. h }
 

@@ -1,21 +1,32 @@
 -- The first number that applies, whatever the tests: where it stands in the list, it is told; where none applies, what follows is
 -- given. By induction over the list of tests. Assumes nothing.
 use mathlib.Core.Path.{_≡_, refl, ap}
-use mathlib.Core.Bool.{true, false}
+use mathlib.Core.Bool.{Bool, true, false, _&&_}
 use mathlib.Core.List.{List, [], _∷_, _++_}
 use Prim.Native.Nat.{ℕ, zero, suc}
+use lib.Dec.{T}
+use lib.Ieee.Fits.{and-l, and-r}
 use Rattle.pairs.specs.Figures.{refuse}
 use Rattle.pairs.proofs.Tests.{past-test, same-test}
-use Rattle.chain.specs.Tests.{Test, first-that-applies, NoneApplies}
+use Rattle.chain.specs.Tests.{Test, first-that-applies}
+use Rattle.chain.specs.Private.{NoneApplies}
 
 -- What holds of each test.
 abbrev pub EachTest : (Test → Type 0) → List Test → Type 0
 EachTest P [] = Unit {0}
 EachTest P (t ∷ ts) = P t × EachTest P ts
 
-pub each-test : (P Q : Test → Type 0) → ((t : Test) → P t → Q t) → (ts : List Test) → EachTest P ts → EachTest Q ts
-each-test P Q f [] h = tt
-each-test P Q f (t ∷ ts) h = (f t (h .0), each-test P Q f ts (h .1))
+-- It holds of each where each number passes a test that gives it.
+abbrev pub every-number : (ℕ → Bool) → List Test → Bool
+every-number passes [] = true
+every-number passes (t ∷ ts) = passes (t .number) && every-number passes ts
+
+pub by-numbers : (P : Test → Type 0) (passes : ℕ → Bool) → ((t : Test) → T (passes (t .number)) → P t) → (ts : List Test) → T (every-number passes ts) → EachTest P ts
+by-numbers P passes f [] h = tt
+by-numbers P passes f (t ∷ ts) h =
+    let first : Bool = passes (t .number) in
+    let later : Bool = every-number passes ts in
+    (f t (and-l first later h), by-numbers P passes f ts (and-r first later h))
 
 -- Of two lists one after the other.
 pub none-of-first : (xs ys : List Test) → NoneApplies (xs ++ ys) → NoneApplies xs

@@ -60,11 +60,11 @@ abbrev pub rate-box : ℕ → ℕ → ℕ → ℕ → Bound
 rate-box widest least a b = box a b (min widest (burning-width least b))
 
 -- L is not refused, l and E are in their spans and l is no wider than allowed.
-abbrev box-tests : (Bound → Bound → Bound) → Bound → Bound → ℕ → Bound → Bound → Bound → List Bool
-box-tests power span D allowed Q L l = L .safe ∷ passing relative-height-bound l ∷ leb (l .width) allowed ∷ passing span (power Q L) ∷ []
+abbrev box-tests : (Bound → Bound → Bound) → Bound → ℕ → Bound → Bound → Bound → List Bool
+box-tests power span allowed Q L l = L .safe ∷ passing relative-height-bound l ∷ leb (l .width) allowed ∷ passing span (power Q L) ∷ []
 
 abbrev height-tests : (Bound → Bound → Bound) → Bound → Bound → ℕ → Bound → Bound → List Bool
-height-tests power span D allowed Q L = box-tests power span D allowed Q L (in-radii bounds L D)
+height-tests power span D allowed Q L = box-tests power span allowed Q L (in-radii bounds L D)
 
 unfoldable pub rate-test : (Bound → Bound) → (Bound → Bound → Bound) → Bound → Bound → ℕ → ℕ → ℕ → ℕ → ℕ → Bool
 rate-test height power span D widest least allowed a b =

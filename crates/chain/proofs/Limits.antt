@@ -6,17 +6,17 @@ use mathlib.Core.Bool.{Bool, true, false, _&&_, not}
 use Prim.Native.Nat.{ℕ, _≤_, _<_}
 use native.Mathlib.Nat.{le-trans}
 use native.Mathlib.Omega.{arith}
-use lib.Dec.{T, leb, ltb, leb→le, lit≤, lit<}
+use lib.Dec.{T, leb, ltb, eqb, leb→le, lit≤, lit<}
+use lib.Ieee.Fits.{and-r}
 use native.Mathlib.Decide.{decLe}
-use borrow.Author.Tests.{le-leb, lt-leb, lt-ltb, le-ltb}
+use borrow.Author.Tests.{eq-eqb, le-leb, lt-leb, lt-ltb, le-ltb}
 use lib.IntN.{ℤ, pos, negsuc, natAbs}
 use Rattle.chain.specs.declared.enquiry.Enquiry.{Enquiry}
 use Rattle.chain.specs.declared.enquiry.Turned.{Turned}
 use Rattle.chain.specs.declared.enquiry.Turned.the-variants as turned
-use Rattle.chain.specs.Tests.{Test, NoneApplies}
 use Rattle.chain.specs.Flux.{Shown, refused, number-of, outside, fuel-within, height-outside, flame-too-low, low-of, high-of, note-of, limits, flame-test, tests, flux-of}
-use Rattle.chain.specs.Private.{Limited}
-use Rattle.chain.proofs.FirstThatApplies.{EachTest, each-test, none-of-first, none-of-last, none-of-both, in-two, none-told, past-tests}
+use Rattle.chain.specs.Private.{NoneApplies, Limited}
+use Rattle.chain.proofs.FirstThatApplies.{every-number, by-numbers, none-of-first, none-of-last, none-of-both, in-two, none-told, past-tests}
 
 pub record Between (least n most : ℕ) : Type 0 where
   pub low : least ≤ n
@@ -78,7 +78,7 @@ fuel E e =
       heat = between 100 500 (E .heat) (t .2);
     }
 
-pub height : (z : ℤ) → height-outside z ≡ false → natAbs z ≤ 20_000
+height : (z : ℤ) → height-outside z ≡ false → natAbs z ≤ 20_000
 unfolding height-outside
 height (pos n) e = between 0 20_000 n e .high
 height (negsuc n) e = le-trans (between 0 5_000 _ e .high) (lit≤ tt)
@@ -96,7 +96,7 @@ numbers E (t11, (t12, (t13, (t14, (t15, (t18, (t19, _))))))) =
       transmissivity = between 1 1_000 (E .transmissivity) t19;
     }
 
--- ---- an accepted enquiry
+-- ---- an enquiry to which no number applies
 -- No number from 11 to 16 applies, nor 18 or 19.
 abbrev pub Tested : Enquiry → Type 0
 Tested E = NoneApplies (tests E)
@@ -115,39 +115,37 @@ pub shown : (E : Enquiry) → Tested E → flux-of E ≡ record { state = 0; low
 unfolding flux-of
 shown E = none-told refused (tests E) _
 
--- The tests' numbers are from 11 to 19.
-abbrev Number : Test → Type 0
-Number t = Between 11 (t .number) 19
+-- ---- what a state says of the tests
+-- Their numbers are from 11 to 19.
+abbrev from-11-to-19 : ℕ → Bool
+from-11-to-19 n = leb 11 n && leb n 19
 
-number : {n : ℕ} → T (leb 11 n) → T (leb n 19) → Between 11 n 19
-number {n} l h = record { low = leb→le 11 n l; high = leb→le n 19 h }
-
-tests-numbers : (E : Enquiry) → EachTest Number (tests E)
-unfolding limits
-tests-numbers E =
-    (number tt tt, (number tt tt, (number tt tt, (number tt tt, (number tt tt, (number tt tt, (number tt tt, (number tt tt, tt))))))))
-
--- A state that is none of them is 0, and comes after all tests.
-pub past-flux-tests : (E : Enquiry) (k : ℕ) → (Between 11 k 19 → ⊥) → (flux-of E) .state ≡ k → Tested E × (0 ≡ k)
-unfolding flux-of
+-- A state that is none of these is 0, and comes after all tests.
+past-flux-tests : (E : Enquiry) (k : ℕ) → (T (from-11-to-19 k) → ⊥) → (flux-of E) .state ≡ k → Tested E × (0 ≡ k)
+unfolding flux-of limits
 past-flux-tests E k other e =
     past-tests refused (λ (s : Shown). s .state ≡ k) (tests E) _
-    (each-test Number (λ t. t .applies ≡ true → t .number ≡ k → ⊥) (λ t n _ z. other (rw z at n)) (tests E) (tests-numbers E)) e
+    (by-numbers (λ t. t .applies ≡ true → t .number ≡ k → ⊥) from-11-to-19 (λ t n _ z. other (subst (λ m. T (from-11-to-19 m)) z n)) (tests E) tt) e
 
--- One that the limits do not tell comes after them.
-pub past-limits : (E : Enquiry) (k : ℕ) → EachTest (λ t. t .number ≡ k → ⊥) (limits E) → (flux-of E) .state ≡ k → Limited E
+-- One that is none of the limits' numbers comes after the limits.
+pub past-limits : (E : Enquiry) (k : ℕ) → T (every-number (λ n. not (eqb n k)) (limits E)) → (flux-of E) .state ≡ k → Limited E
 unfolding flux-of
 past-limits E k other e =
     past-tests refused (λ (s : Shown). s .state ≡ k) (limits E) _
-    (each-test (λ t. t .number ≡ k → ⊥) (λ t. t .applies ≡ true → t .number ≡ k → ⊥) (λ t n _ z. n z) (limits E) other)
+    (by-numbers (λ t. t .applies ≡ true → t .number ≡ k → ⊥) (λ n. not (eqb n k)) (λ t n _ z. differ (t .number) k n z) (limits E) other)
     (rw (in-two refused (limits E) (flame-test E) _) at e) .0
+  where
+    differ : (n k : ℕ) → T (not (eqb n k)) → n ≡ k → ⊥
+    differ n k t z = subst (λ b. T (not b)) (eq-eqb n k z) t
 
 pub accepted-tested : (E : Enquiry) → (flux-of E) .state ≡ 0 → Tested E
-accepted-tested E e = past-flux-tests E 0 (λ b. omega (arith, b .low)) e .0
+accepted-tested E e = past-flux-tests E 0 (λ t. t) e .0
 
 -- No flux is refused by a number above 19.
 pub never-above-19 : (E : Enquiry) (k : ℕ) → 19 < k → flux-of E .state ≡ k → ⊥
-never-above-19 E k l e = let z = past-flux-tests E k (λ b. omega (arith, b .high)) e .1 in omega (arith, z)
+never-above-19 E k l e =
+    let z = past-flux-tests E k (λ t. let u = leb→le k 19 (and-r (leb 11 k) (leb k 19) t) in omega (arith, u)) e .1 in
+    omega (arith, z)
 
 -- No refusal has the number 0.
 pub number-above-0 : (why : Turned) → 0 < number-of why

@@ -15,7 +15,7 @@ sweep test next (suc n) a z =
     elim (leb z a) [ true ↦ true | false ↦ elim (test a (next a)) [ true ↦ sweep test next n (next a) z | false ↦ false ] ]
 
 -- A choice that holds: by its first outcome or by its second.
-pub chosen : (b x y : Bool) → T (elim b [ true ↦ x | false ↦ y ]) → (T b × T x) ⊎ T y
+chosen : (b x y : Bool) → T (elim b [ true ↦ x | false ↦ y ]) → (T b × T x) ⊎ T y
 chosen true x y t = inl (tt, t)
 chosen false x y t = inr t
 

@@ -3,7 +3,7 @@
 -- and rounded pairs. Assumes nothing.
 use mathlib.Core.Path.{_≡_, subst}
 use mathlib.Core.Bool.{true}
-use Prim.Native.Nat.{ℕ, _*_, _≤_}
+use Prim.Native.Nat.{ℕ, _+_, _*_, _≤_}
 use native.Mathlib.Nat.{le-trans, mul-le-mul-left}
 use native.Mathlib.Omega.{arith}
 use lib.Dec.{T, eqb, lit<}
@@ -25,7 +25,7 @@ use Rattle.chain.proofs.Steps.{diameter-of-kept, flame-height-of-kept, 
 use Rattle.chain.proofs.Boxes.{known, passing, passed, times-over-held, either}
 use Rattle.chain.proofs.Configuration.{relative-height-bound, elevation-bound, relative-distance-bound, spaced, factor-at-held}
 use Rattle.chain.proofs.Limits.{numbers}
-use Rattle.chain.proofs.Flame.{emissive-bound-1, emissive-bound-2, emissive-bound-3, emissive-bound}
+use Rattle.chain.proofs.Flame.{flame-width, emissive-bound-1, emissive-bound-2, emissive-bound-3, emissive-bound}
 use Rattle.chain.proofs.AreaBox.{Area}
 use Rattle.chain.proofs.Areas.{areas}
 use Rattle.chain.proofs.Haze.{transmitted-ordered, transmitted-high}
@@ -63,6 +63,11 @@ module _ (E : Enquiry) (w : Limited E) where
   pub height-held : Held (relative-height-of answers E) relative-height-bound
   unfolding relative-height-of flame-height-of
   height-held = area .flame .height
+
+  -- as wide as e allows
+  pub height-near : (relative-height-of answers E) .pair .high ≤ (relative-height-of answers E) .pair .low + flame-width ((relative-distance-of answers E) .pair .low)
+  unfolding relative-height-of flame-height-of
+  height-near = let d = numbers E w .distance in area .flame .height-near (d .low) (d .high)
 
   pub power-held : Held (emissive-power-of answers E) (emissive-bound (E .method))
   unfolding emissive-power-of

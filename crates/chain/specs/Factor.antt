@@ -31,5 +31,6 @@ factor-tests l e face =
     ∷ test 23 (outside 1 3 face)
     ∷ []
 
+-- "Returns [0, 0]." with each of them.
 unfoldable pub factor-of : ℕ → ℕ → ℕ → Figures
 factor-of l e face = first-that-applies refused (factor-tests l e face) (given (factor rounded face (ends l l) (ends e e)))

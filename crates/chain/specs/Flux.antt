@@ -91,5 +91,6 @@ flame-test E = test 16 (flame-too-low E) ∷ []
 abbrev pub tests : Enquiry → List Test
 tests E = limits E ++ flame-test E
 
+-- "Returns zeros for low, high and note. An enquiry is accepted exactly when no number of this group applies to it."
 unfoldable pub flux-of : Enquiry → Shown
 flux-of E = first-that-applies refused (tests E) (record { state = 0; low = low-of E; high = high-of E; note = note-of E })

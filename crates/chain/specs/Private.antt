@@ -1,6 +1,7 @@
 -- Vocabulary of private functions' contracts. No public contract uses it.
 use mathlib.Core.Path.{_≡_}
 use mathlib.Core.Bool.{true, false, _&&_}
+use mathlib.Core.List.{List, [], _∷_}
 use Prim.Native.Nat.{ℕ, _+_, _*_, _≤_}
 use lib.Dec.{eqb, leb}
 use Rattle.pairs.specs.declared.answer.Pair.{Pair}
@@ -16,8 +17,13 @@ use Rattle.chain.specs.declared.factor.DistanceTerms.{DistanceTerms}
 use Rattle.chain.specs.declared.factor.Upright.{Upright}
 use Rattle.chain.specs.declared.factor.Seen.{Seen}
 use Rattle.chain.specs.Chain as chain
-use Rattle.chain.specs.Tests.{NoneApplies}
+use Rattle.chain.specs.Tests.{Test}
 use Rattle.chain.specs.Flux.{limits}
+
+-- No test of a list applies.
+abbrev pub NoneApplies : List Test → Type 0
+NoneApplies [] = Unit {0}
+NoneApplies (t ∷ ts) = (t .applies ≡ false) × NoneApplies ts
 
 -- No number from 11 to 15 applies, nor 18 or 19.
 abbrev pub Limited : Enquiry → Type 0

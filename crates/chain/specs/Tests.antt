@@ -1,7 +1,6 @@
 -- Document 01, "Turned back": "In each group the first number that applies, in the order written, is given." A group is the list of
 -- its tests, each with its number.
-use mathlib.Core.Path.{_≡_}
-use mathlib.Core.Bool.{Bool, false}
+use mathlib.Core.Bool.{Bool}
 use mathlib.Core.List.{List, [], _∷_}
 use Prim.Native.Nat.{ℕ}
 use Rattle.pairs.specs.Figures.{refuse}
@@ -17,7 +16,3 @@ test number applies = record { number = number; applies = applies }
 abbrev pub first-that-applies : {R : Type 0} → (ℕ → R) → List Test → R → R
 first-that-applies refused [] rest = rest
 first-that-applies refused (t ∷ ts) rest = refuse (t .applies) (refused (t .number)) (first-that-applies refused ts rest)
-
-abbrev pub NoneApplies : List Test → Type 0
-NoneApplies [] = Unit {0}
-NoneApplies (t ∷ ts) = (t .applies ≡ false) × NoneApplies ts

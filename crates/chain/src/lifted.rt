@@ -1,4 +1,4 @@
-// The operations of pairs on answers: the first refusal stays.
+// The operations of pairs on answers: the first refusal stays; and the pair of an answer.
 use pairs::answer::Answer;
 use pairs::answer::Pair;
 use pairs::atan::atan;

@@ -3,9 +3,9 @@
 use mathlib.Core.Path.{_≡_, refl, sym, ap, ap₂, subst, _∙_}
 use mathlib.Core.Bool.{Bool, true, false}
 use Prim.Native.Nat.{ℕ, zero, suc, _*_, _^_, _<_, zero-le}
-use native.Mathlib.Nat.{not-le-of-lt, zero-lt-suc}
+use native.Mathlib.Nat.{not-le-of-lt, lt-of-not-le, zero-lt-suc}
 use native.Mathlib.Omega.{arith}
-use lib.Dec.{T, leb, ltb, eqb, leb→le}
+use lib.Dec.{T, leb, ltb, eqb, leb→le, le→leb}
 use Rattle.pairs.specs.declared.answer.Pair.{Pair}
 use Rattle.pairs.specs.Rounded as R
 use Rattle.pairs.specs.Rounded.{U, rounded, is-cold, cold-pair}
@@ -38,6 +38,10 @@ refuse-passed b n f h =
 pub fitting-passed : (p : Pair) → (fitting p) .number ≡ 0 → fitting p ≡ given p
 unfolding fitting
 fitting-passed p h = refuse-passed (leb (2 ^ 64) (p .high)) 63 (given p) h .1
+
+pub fitting-below : (p : Pair) → (fitting p) .number ≡ 0 → p .high < 2 ^ 64
+unfolding fitting
+fitting-below p h = lt-of-not-le (λ k. refuse-passed (leb (2 ^ 64) (p .high)) 63 (given p) h .0 (le→leb (2 ^ 64) (p .high) k))
 
 -- ---- the other way: what is not refused
 pub after-given : (a f : Figures) → a .number ≡ 0 → after a f ≡ f
@@ -106,8 +110,8 @@ admit-same p = tested-same (ltb (p .high) (p .low)) 60
 admit-two-same : {r : Pair} (p q : Pair) (f : Figures) → (f .number ≡ 0 → f .pair ≡ r) → (admit p (admit q f)) .number ≡ 0 → (admit p (admit q f)) .pair ≡ r
 admit-two-same p q f h = admit-same p (admit q f) (admit-same q f h)
 
-past-admit : (p : Pair) (f : Figures) → (admit p f) .number ≡ 0 → f .number ≡ 0
-past-admit p f z = past-test (λ (f : Figures). f .number ≡ 0) (ltb (p .high) (p .low)) (λ _ e. omega (arith, e)) z .1
+pub past-admit : (p : Pair) (f : Figures) → (admit p f) .number ≡ 0 → f .number ≡ 0
+past-admit p f z = rw (refuse-passed (ltb (p .high) (p .low)) 60 f z .1) at z
 
 -- A test that lets the pair itself through.
 let-through : {a : Figures} {p : Pair} (b : Bool) → Agrees a p → Agrees (after a (admit (a .pair) (refuse b (refused 63) (given (a .pair))))) p

@@ -1,5 +1,5 @@
 -- What the formulas are written over. The series and the chain stand once, over any record of these operations,
--- and are read in several arithmetics: rounded pairs without bound, what the code answers, exact fractions at depth n.
+-- and are read in several arithmetics: rounded pairs without bound, what the code answers, exact fractions at depth n, ranges, stages.
 use Prim.Native.Nat.{ℕ}
 
 pub record Arithmetic : Type 1 where

@@ -2,21 +2,19 @@
 -- takes was not refused before it. Assumes nothing.
 use mathlib.Core.Path.{_≡_, refl, ap₂, subst}
 use mathlib.Core.Bool.{Bool, true, false}
-use Prim.Native.Nat.{ℕ, suc, _*_, _^_, _<_, max}
+use Prim.Native.Nat.{ℕ, _*_, _^_, _<_, max}
 use native.Mathlib.Omega.{arith}
 use lib.Dec.{leb, ltb, eqb, lit<}
-use borrow.Author.Tests.{leb-false}
 use Rattle.pairs.specs.declared.answer.Pair.{Pair}
 use Rattle.pairs.specs.Rounded as R
 use Rattle.pairs.specs.Rounded.{U, is-cold, cold-pair}
 use Rattle.pairs.specs.Figures.{Figures, given, refused, refuse, after}
 use Rattle.pairs.specs.Answers as A
 use Rattle.pairs.specs.Answers.{answers, admit, fitting}
-use Rattle.pairs.proofs.Tests.{past-test}
-use Rattle.pairs.proofs.Agreement.{Agrees, after-passed, agreement}
+use Rattle.pairs.proofs.Agreement.{Agrees, after-passed, refuse-passed, past-admit, fitting-below, agreement}
 use Rattle.pairs.proofs.Kept.{Kept}
 use Rattle.stages.specs.Stages as S
-use Rattle.stages.specs.Stages.{Stage, stage, on-one, on-two, stages}
+use Rattle.stages.specs.Stages.{Stage, on-one, on-two, stages}
 
 pub record Below (f : Figures) (s : Stage) : Type 0 where
   pub agrees : Agrees f (s .pair)
@@ -24,19 +22,6 @@ pub record Below (f : Figures) (s : Stage) : Type 0 where
 
 both-below : (a b : ℕ) → a < 2 ^ 64 → b < 2 ^ 64 → max a b < 2 ^ 64
 both-below a b h k = omega arith
-
--- ---- what a test lets through
-past : (b : Bool) (n : ℕ) (f : Figures) → (refuse b (refused (suc n)) f) .number ≡ 0 → f .number ≡ 0
-past b n f z = past-test (λ (f : Figures). f .number ≡ 0) b (λ _ e. omega (arith, e)) z .1
-
-past-admit : (p : Pair) (f : Figures) → (admit p f) .number ≡ 0 → f .number ≡ 0
-past-admit p f = past (ltb (p .high) (p .low)) 60 f
-
-fitting-below : (p : Pair) → (fitting p) .number ≡ 0 → p .high < 2 ^ 64
-unfolding fitting
-fitting-below p z =
-    let failed = past-test (λ (f : Figures). f .number ≡ 0) (leb (2 ^ 64) (p .high)) (λ _ e. omega (arith, e)) z .0 in
-    leb-false (2 ^ 64) (p .high) failed
 
 -- ---- a tail t that tests the result of an operation, after what it takes
 one-below :
@@ -84,13 +69,16 @@ two-tested {a} {b} operation h k agrees =
     (λ z. fitting-below result (past-admit (b .pair) (fitting result) (past-admit (a .pair) (admit (b .pair) (fitting result)) z)))
 
 -- One that tests 62 between them.
+past-62 : (b : Bool) (f : Figures) → (refuse b (refused 62) f) .number ≡ 0 → f .number ≡ 0
+past-62 b f z = rw (refuse-passed b 61 f z .1) at z
+
 quotient-below : {a b : Figures} {s r : Stage} → Below a s → Below b r → Below (A.quotient a b) (on-two R.quotient s r)
 unfolding A.quotient A.quotient-of
 quotient-below {a} {b} h k =
     let result = R.quotient (a .pair) (b .pair) in
     let divided = refuse (eqb (b .pair .low) 0) (refused 62) (fitting result) in
     two-below (admit (a .pair) (admit (b .pair) divided)) R.quotient h k (agreement .quotient (h .agrees) (k .agrees))
-    (λ z. fitting-below result (past (eqb (b .pair .low) 0) 61 (fitting result) (past-admit (b .pair) divided (past-admit (a .pair) (admit (b .pair) divided) z))))
+    (λ z. fitting-below result (past-62 (eqb (b .pair .low) 0) (fitting result) (past-admit (b .pair) divided (past-admit (a .pair) (admit (b .pair) divided) z))))
 
 over-below : {a : Figures} {s : Stage} → Below a s → (n : ℕ) → Below (A.over a n) (on-one (λ p. R.over p n) s)
 unfolding A.over A.over-of
@@ -98,7 +86,7 @@ over-below {a} h n =
     let result = R.over (a .pair) n in
     let divided = refuse (eqb n 0) (refused 62) (fitting result) in
     one-below (admit (a .pair) divided) (λ p. R.over p n) h (agreement .over (h .agrees) n)
-    (λ z. fitting-below result (past (eqb n 0) 61 (fitting result) (past-admit (a .pair) divided z)))
+    (λ z. fitting-below result (past-62 (eqb n 0) (fitting result) (past-admit (a .pair) divided z)))
 
 -- A last term is not tested for 61.
 high-only-below : {a : Figures} {s : Stage} → Below a s → Below (A.high-only a) (on-one R.high-only s)

@@ -14,21 +14,18 @@ use Rattle.chain.specs.Chain.{radiant-flux}
 use Rattle.chain.specs.Flux.{limits}
 use Rattle.chain.specs.Private.{Limited}
 use Rattle.chain.proofs.Steps.{radiant-flux-kept}
-use Rattle.chain.proofs.Limits.{limited, past-limits, accepted-tested}
+use Rattle.chain.proofs.Limits.{past-limits}
 use Rattle.chain.proofs.Unrefused.{unrefused}
 use Rattle.stages.specs.Stages as S
 use Rattle.stages.specs.Stages.{Stage, stages}
 use Rattle.stages.specs.Claims.{InsideLimits, Claims}
 use Rattle.stages.proofs.Below.{below}
 
--- 16 is none of their numbers.
+-- Neither 0 nor 16 is a number of the limits.
 inside : (E : Enquiry) → InsideLimits E → Limited E
 unfolding limits
-inside E (inl e) = limited E (accepted-tested E e)
-inside E (inr e) =
-    past-limits E _
-    (λ z. omega (arith, z), (λ z. omega (arith, z), (λ z. omega (arith, z), (λ z. omega (arith, z), (λ z. omega (arith, z), (λ z. omega (arith, z), (λ z. omega (arith, z), tt)))))))
-    e
+inside E (inl e) = past-limits E _ tt e
+inside E (inr e) = past-limits E _ tt e
 
 not-refused : (E : Enquiry) → InsideLimits E → (radiant-flux answers E) .number ≡ 0
 not-refused E s = ap (λ (f : Figures). f .number) (unrefused E (inside E s) .flux-given)

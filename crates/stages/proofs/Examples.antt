@@ -3,7 +3,7 @@
 use mathlib.Core.Path.{_≡_, refl, ap, _∙_}
 use mathlib.Core.Bool.{true, false, _&&_}
 use mathlib.Core.Logic.{inr}
-use Prim.Native.Nat.{ℕ, _*_, _<_}
+use Prim.Native.Nat.{ℕ, zero, suc, _*_, _≤_, _<_}
 use native.Mathlib.Omega.{arith}
 use lib.IntN.{ℤ}
 use lib.Dec.{T, ltb, ltb→lt}
@@ -19,6 +19,7 @@ use Rattle.chain.proofs.Bounds.{bounds}
 use Rattle.chain.proofs.Within.{within}
 use Rattle.chain.proofs.Steps.{diameter-of-kept, flame-height-of-kept}
 use Rattle.chain.proofs.Opened.{opened}
+use Rattle.chain.proofs.Limits.{inside}
 use Rattle.chain.proofs.FirstThatApplies.{told, in-two, none-told}
 use Rattle.chain.proofs.Unrefused.{unrefused}
 use Rattle.stages.specs.Claims.{InsideLimits}
@@ -45,31 +46,31 @@ Low E =
     T (D .safe && L .safe && ltb (4 * L .most) (D .least))
 
 module _ (face : ℕ) (height : ℤ) (transmissivity : ℕ) where
-  low-1 : Low (case-M 1 face height transmissivity)
-  unfolding opened flame-height-of flame-of flame-1-of
-  low-1 = tt
+  low : (method : ℕ) → 1 ≤ method → method ≤ 2 → Low (case-M method face height transmissivity)
+  unfolding opened flame-height-of flame-of flame-1-of flame-2-of
+  low zero l h = absurd (omega arith)
+  low (suc zero) l h = tt
+  low (suc (suc zero)) l h = tt
+  low (suc (suc (suc n))) l h = absurd (omega arith)
 
-  low-2 : Low (case-M 2 face height transmissivity)
-  unfolding opened flame-height-of flame-of flame-2-of
-  low-2 = tt
-
-  module _ (f : outside 1 3 face ≡ false) (h : height-outside height ≡ false) (t : outside 1 1_000 transmissivity ≡ false) (method : ℕ) (m : outside 1 3 method ≡ false) (low : Low (case-M method face height transmissivity)) where
+  module _ (f : outside 1 3 face ≡ false) (h : height-outside height ≡ false) (t : outside 1 1_000 transmissivity ≡ false) (method : ℕ) (least : 1 ≤ method) (most : method ≤ 2) where
     abbrev E : Enquiry
     E = case-M method face height transmissivity
 
     within-limits : Limited E
     unfolding limits fuel-within
-    within-limits = (refl, (refl, (m, (refl, (f, (h, (t, tt)))))))
+    within-limits = (refl, (refl, (inside 1 3 method least (omega arith), (refl, (f, (h, (t, tt)))))))
 
     too-low : flame-too-low E ≡ true
     unfolding flame-too-low
     too-low =
         let D = diameter-of bounds E in
         let L = flame-height-of bounds E in
-        let safe = and-l (D .safe && L .safe) (ltb (4 * L .most) (D .least)) low in
+        let tests = low method least most in
+        let safe = and-l (D .safe && L .safe) (ltb (4 * L .most) (D .least)) tests in
         let d = diameter-of-kept within E .where-safe (and-l (D .safe) (L .safe) safe) in
         let l = flame-height-of-kept within E .where-safe (and-r (D .safe) (L .safe) safe) in
-        let below = ltb→lt (4 * L .most) (D .least) (and-r (D .safe && L .safe) (ltb (4 * L .most) (D .least)) low) in
+        let below = ltb→lt (4 * L .most) (D .least) (and-r (D .safe && L .safe) (ltb (4 * L .most) (D .least)) tests) in
         let same = unrefused E within-limits in
         let lower : 4 * (flame-height-of answers E) .pair .low < (diameter-of answers E) .pair .high = omega (arith, below, d .inside .low, d .inside .ordered, l .inside .ordered, l .inside .high) in
         lt-ltb (4 * (flame-height-of rounded E) .low) ((diameter-of rounded E) .high) (rw (same .diameter-given, same .flame-height-given) at lower)
@@ -80,9 +81,5 @@ module _ (face : ℕ) (height : ℤ) (transmissivity : ℕ) where
         ap (λ (s : Shown). s .state)
         (in-two refused (limits E) (flame-test E) _ ∙ none-told refused (limits E) _ within-limits ∙ told refused 0 (flame-test E) 16 _ (too-low, refl))
 
-  module _ (f : outside 1 3 face ≡ false) (h : height-outside height ≡ false) (t : outside 1 1_000 transmissivity ≡ false) where
-    pub low-flame-1 : InsideLimits (case-M 1 face height transmissivity)
-    low-flame-1 = inr (is-16 f h t 1 refl low-1)
-
-    pub low-flame-2 : InsideLimits (case-M 2 face height transmissivity)
-    low-flame-2 = inr (is-16 f h t 2 refl low-2)
+    pub low-flame : InsideLimits E
+    low-flame = inr is-16

@@ -1,4 +1,5 @@
--- The stages of a chain: each pair as `rounded` has it, with the largest high end of all stages up to it. Nothing is refused.
+-- The stages of a chain: each pair as `rounded` has it, with the largest high end of all stages up to it. Nothing is refused. Document 01:
+-- "m·c·a before the division by 1000 is no stage", "Trials inside a root or fifth root are no steps."
 use Prim.Native.Nat.{ℕ, max}
 use mathlib.Core.Bool.{true, false}
 use Rattle.pairs.specs.declared.answer.Pair.{Pair}
@@ -10,7 +11,7 @@ pub record Stage : Type 0 where
   pub pair : Pair
   pub largest : ℕ
 
--- A pair, and the largest high end of the stages before it.
+-- A stage from its pair and the largest high end before it.
 abbrev pub stage : ℕ → Pair → Stage
 stage before p = record { pair = p; largest = max before (p .high) }
 
@@ -20,6 +21,7 @@ on-one operation s = stage (s .largest) (operation (s .pair))
 abbrev pub on-two : (Pair → Pair → Pair) → Stage → Stage → Stage
 on-two operation s t = stage (max (s .largest) (t .largest)) (operation (s .pair) (t .pair))
 
+-- No span is tested.
 abbrev pub untested : Stage → Stage
 untested s = s
 

@@ -26,7 +26,7 @@ use Rattle.chain.proofs.Limits.{Tested, numbers, limited}
 use Rattle.chain.proofs.Unrefused as chain
 use Rattle.chain.proofs.Haze.{hazy-near}
 use Rattle.chain.proofs.Level.{clear-level}
-use Rattle.widths.proofs.HighFlame.{high-flame, high-flame-near}
+use Rattle.widths.proofs.HighFlame.{high-flame}
 use Rattle.widths.proofs.FactorWidths.{Placement, level-bound, above-bound, below-bound, level-within, above-within, below-within}
 
 -- ---- bounds of E·F
@@ -96,7 +96,7 @@ module _ (E : Enquiry) (t : Tested E) where
       let d = numbers E w .distance in
       record {
         height = high-flame E t;
-        height-near = high-flame-near E t;
+        height-near = chain.height-near E w;
         elevation = chain.elevation-held E w;
         distance = record { held = chain.distance-held E w; near = chain.area E w .distance-near (d .low) (d .high) };
       }

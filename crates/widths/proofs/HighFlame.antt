@@ -1,22 +1,20 @@
--- A flame that is not too low: l is at least 0.4, and as wide as e allows. From the flame test, by the law of a quarter of the
--- diameter. Assumes nothing.
+-- A flame that is not too low: l is at least 0.4. From the flame test, by the law of a quarter of the diameter. Assumes nothing.
 use mathlib.Core.Bool.{true}
-use Prim.Native.Nat.{_+_, _*_, _≤_}
+use Prim.Native.Nat.{_*_, _≤_}
 use native.Mathlib.Omega.{arith}
 use borrow.Author.Tests.{ltb-false}
 use Rattle.pairs.specs.Rounded.{rounded}
 use Rattle.pairs.specs.Answers.{answers}
 use Rattle.pairs.proofs.Agreement.{agreement}
 use Rattle.chain.specs.declared.enquiry.Enquiry.{Enquiry}
-use Rattle.chain.specs.Chain.{diameter-of, flame-height-of, relative-height-of, relative-distance-of}
+use Rattle.chain.specs.Chain.{diameter-of, flame-height-of, relative-height-of}
 use Rattle.chain.specs.Flux.{flame-too-low}
 use Rattle.chain.proofs.Bounds.{Bound}
 use Rattle.chain.proofs.Within.{Held}
 use Rattle.chain.proofs.Steps.{diameter-of-kept, relative-height-of-kept}
 use Rattle.chain.proofs.Configuration.{relative-height-bound}
-use Rattle.chain.proofs.Flame.{flame-width}
 use Rattle.chain.proofs.Radii.{quarter-in-radii}
-use Rattle.chain.proofs.Limits.{Tested, limited, flame-high-enough, numbers}
+use Rattle.chain.proofs.Limits.{Tested, limited, flame-high-enough}
 use Rattle.chain.proofs.Unrefused.{area, height-held, agreed-inside}
 
 abbrev pub high-flame-bound : Bound
@@ -47,7 +45,3 @@ module _ (E : Enquiry) (t : Tested E) where
               near = i .near;
             };
       }
-
-  pub high-flame-near : (relative-height-of answers E) .pair .high ≤ (relative-height-of answers E) .pair .low + flame-width ((relative-distance-of answers E) .pair .low)
-  unfolding relative-height-of flame-height-of
-  high-flame-near = let d = numbers E (limited E t) .distance in area E (limited E t) .flame .height-near (d .low) (d .high)

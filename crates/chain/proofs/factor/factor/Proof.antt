@@ -8,9 +8,8 @@ use Rattle.pairs.specs.Rounded.{ends}
 use Rattle.pairs.specs.Figures.{Figures, given, refused}
 use Rattle.pairs.specs.Answers.{answers}
 use Rattle.chain.specs.Chain as chain
-use Rattle.chain.specs.Tests.{NoneApplies}
 use Rattle.chain.specs.Factor.{factor-tests, factor-of}
-use Rattle.chain.specs.Private.{Spaced}
+use Rattle.chain.specs.Private.{NoneApplies, Spaced}
 use Rattle.chain.proofs.FirstThatApplies.{FirstAt, told, none-told}
 use Rattle.chain.proofs.Limits.{between}
 use Rattle.chain.proofs.FactorAlone.{factor-not-refused, exactly-spaced}

@@ -23,12 +23,12 @@ use Rattle.chain.proofs.flux.flux_within.Tie as tie
 
 module _ (E : Enquiry) (w : Limited E) where
   -- the tests of the numbers do not apply, so the flame test is left
-  within-limits : flux-of E ≡ first-that-applies refused (flame-test E) (record { state = 0; low = low-of E; high = high-of E; note = note-of E })
+  flame-test-left : flux-of E ≡ first-that-applies refused (flame-test E) (record { state = 0; low = low-of E; high = high-of E; note = note-of E })
   unfolding flux-of
-  within-limits = in-two refused (limits E) (flame-test E) _ ∙ none-told refused (limits E) _ w
+  flame-test-left = in-two refused (limits E) (flame-test E) _ ∙ none-told refused (limits E) _ w
 
   low-flame : flame-too-low E ≡ true → refused 16 ≡ flux-of E
-  low-flame e = sym (within-limits ∙ told refused 0 (flame-test E) 16 _ (e, refl))
+  low-flame e = sym (flame-test-left ∙ told refused 0 (flame-test E) 16 _ (e, refl))
 
   -- what is printed of the chain's pair
   as-shown :
