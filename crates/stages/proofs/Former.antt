@@ -1,12 +1,13 @@
 -- What was shown for an enquiry before request 13, with 17 as the last test, is what is shown: "An enquiry outside the limits must get the
 -- number it got before." By the law that no operation refuses where no test applies. Assumes nothing.
-use mathlib.Core.Path.{_≡_, refl}
+use mathlib.Core.Path.{_≡_, refl, _∙_}
 use mathlib.Core.Bool.{Bool, not}
 use lib.Dec.{eqb}
 use Rattle.pairs.specs.Figures.{refuse}
 use Rattle.pairs.specs.Answers.{answers}
 use Rattle.chain.specs.declared.enquiry.Enquiry.{Enquiry}
 use Rattle.chain.specs.Chain.{radiant-flux}
+use Rattle.chain.specs.Tests.{first-that-applies}
 use Rattle.chain.specs.Flux.{Shown, refused, outside, fuel-within, height-outside, flame-too-low, low-of, high-of, note-of, limits, tests, flux-of}
 use Rattle.chain.proofs.FirstThatApplies.{same-tests}
 use Rattle.chain.proofs.Limits.{limited}
@@ -29,6 +30,16 @@ former-flux-of E =
     (refuse (stage-too-large E) (refused 17)
     (record { state = 0; low = low-of E; high = high-of E; note = note-of E })))))))))
 
+abbrev figures : Enquiry → Shown
+figures E = record { state = 0; low = low-of E; high = high-of E; note = note-of E }
+
+-- The tests of today, and then 17.
+with-17 : (E : Enquiry) → former-flux-of E ≡ first-that-applies refused (tests E) (refuse (stage-too-large E) (refused 17) (figures E))
+unfolding former-flux-of limits
+with-17 E = refl
+
 pub nothing-moved : (E : Enquiry) → former-flux-of E ≡ flux-of E
-unfolding former-flux-of flux-of limits
-nothing-moved E = same-tests refused (λ s t. s ≡ t) (λ _. refl) (tests E) _ _ (λ none. rw (unrefused E (limited E none) .flux-given))
+unfolding flux-of
+nothing-moved E =
+    with-17 E
+    ∙ same-tests refused (λ s t. s ≡ t) (λ _. refl) (tests E) _ (figures E) (λ none. rw (unrefused E (limited E none) .flux-given))
