@@ -32,15 +32,15 @@ abbrev pub diameter-bound : Bound
 diameter-bound = record { least = U; most = 50 * U; width = 6_000; safe = true }
 
 -- ---- the tests of one box of areas
-abbrev pub area-box : ℕ → ℕ → Bound
+abbrev area-box : ℕ → ℕ → Bound
 area-box a b = record { least = 4 * a * U / 100; most = 4 * b * U / 100; width = 0; safe = true }
 
 -- Exact pairs of a number of thousandths, from a to b.
-abbrev pub thousandths-box : ℕ → ℕ → Bound
+abbrev thousandths-box : ℕ → ℕ → Bound
 thousandths-box a b = record { least = a * U / 1000; most = b * U / 1000; width = 0; safe = true }
 
 -- X, where 1-X is at least the least.
-abbrev pub unabsorbed-box : ℕ → Bound
+abbrev unabsorbed-box : ℕ → Bound
 unabsorbed-box least = record { least = exp-bound .least; most = U - least; width = exp-bound .width; safe = true }
 
 -- Q and M: the heat and the mass that burn.
@@ -58,23 +58,23 @@ abbrev next-mass : ℕ → ℕ
 next-mass m = m + m / 2
 
 -- L of method 3 from M.
-abbrev pub smoky-height : Bound → Bound → Bound
+abbrev smoky-height : Bound → Bound → Bound
 smoky-height D M = flame-height-3 bounds D (froude-number bounds D M)
 
 -- The least optical depth of the box, what 1-X is at least, and the bound of e.
-abbrev pub depth-from : Bound → ℕ
+abbrev depth-from : Bound → ℕ
 depth-from D = down (D .least * 10) 100
 
-abbrev pub burnt-from : Bound → ℕ
+abbrev burnt-from : Bound → ℕ
 burnt-from D = burnt (depth-from D)
 
-abbrev pub distances : Bound → Bound
+abbrev distances : Bound → Bound
 distances D = in-radii bounds (thousandths-box 1_000 200_000) D
 
-abbrev pub allowed : Bound → ℕ
+abbrev allowed : Bound → ℕ
 allowed D = flame-width ((distances D) .least)
 
-abbrev pub area-tests : ℕ → Bound → Bound → Bound → Bound → List Bool
+abbrev area-tests : ℕ → Bound → Bound → Bound → Bound → List Bool
 area-tests b D Q M P =
     leb b 190_001
     ∷ passing diameter-bound D
@@ -90,7 +90,7 @@ area-tests b D Q M P =
     ∷ sweep (rate-test (smoky-height D) (λ _ _. P) emissive-bound-3 D (M .width) (burnt-from D) (allowed D)) next-mass 40 (M .least) (suc (M .most))
     ∷ []
 
-abbrev pub pool-tests : ℕ → ℕ → Bound → List Bool
+abbrev pool-tests : ℕ → ℕ → Bound → List Bool
 pool-tests a b D = area-tests b D (heat-box a b (burnt-from D)) (mass-box (burnt-from D)) (emissive-power-3 bounds D)
 
 unfoldable pub area-test : ℕ → ℕ → Bool

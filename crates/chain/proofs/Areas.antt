@@ -1,4 +1,4 @@
--- Every area inside its limits: what the steps up to the flame give, and where the flame is not too low, l and E.
+-- Every area inside its limits: D, e, a height in radii, and l and E of every flame.
 -- By one sweep over the area, and in it one over the heat release rate and one over the burning rate. Assumes nothing.
 use mathlib.Core.Path.{_≡_, refl}
 use Prim.Native.Nat.{ℕ, _+_, _/_, _≤_, min}
@@ -12,7 +12,7 @@ use Rattle.chain.proofs.Flame.{rate-test}
 use Rattle.chain.proofs.AreaBox.{heat-box, mass-box, area-test, Area, area-tested}
 use Rattle.chain.specs.declared.enquiry.Enquiry.{Enquiry}
 
-abbrev pub next-area : ℕ → ℕ
+abbrev next-area : ℕ → ℕ
 next-area a = min (a + a / 2) 190_001
 
 area-sweep : T (sweep area-test next-area 40 100 190_001)

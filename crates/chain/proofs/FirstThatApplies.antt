@@ -7,26 +7,19 @@ use Prim.Native.Nat.{ℕ, zero, suc}
 use lib.Dec.{T}
 use lib.Ieee.Fits.{and-l, and-r}
 use Rattle.pairs.specs.Figures.{refuse}
-use Rattle.pairs.proofs.Tests.{past-test, same-test}
+use Rattle.pairs.proofs.Tests.{past-test, same-after-test}
 use Rattle.chain.specs.Tests.{Test, first-that-applies}
-use Rattle.chain.specs.Private.{NoneApplies}
+use Rattle.chain.specs.Private.{EachTest, NoneApplies}
 
--- What holds of each test.
-abbrev pub EachTest : (Test → Type 0) → List Test → Type 0
-EachTest P [] = Unit {0}
-EachTest P (t ∷ ts) = P t × EachTest P ts
+-- What holds of each test that passes a check, where each does.
+abbrev pub every-test : (Test → Bool) → List Test → Bool
+every-test passes [] = true
+every-test passes (t ∷ ts) = passes t && every-test passes ts
 
--- It holds of each where each number passes a test that gives it.
-abbrev pub every-number : (ℕ → Bool) → List Test → Bool
-every-number passes [] = true
-every-number passes (t ∷ ts) = passes (t .number) && every-number passes ts
-
-pub by-numbers : (P : Test → Type 0) (passes : ℕ → Bool) → ((t : Test) → T (passes (t .number)) → P t) → (ts : List Test) → T (every-number passes ts) → EachTest P ts
-by-numbers P passes f [] h = tt
-by-numbers P passes f (t ∷ ts) h =
-    let first : Bool = passes (t .number) in
-    let later : Bool = every-number passes ts in
-    (f t (and-l first later h), by-numbers P passes f ts (and-r first later h))
+pub by-every-test : (P : Test → Type 0) (passes : Test → Bool) → ((t : Test) → T (passes t) → P t) → (ts : List Test) → T (every-test passes ts) → EachTest P ts
+by-every-test P passes f [] h = tt
+by-every-test P passes f (t ∷ ts) h =
+    (f t (and-l (passes t) (every-test passes ts) h), by-every-test P passes f ts (and-r (passes t) (every-test passes ts) h))
 
 -- Of two lists one after the other.
 pub none-of-first : (xs ys : List Test) → NoneApplies (xs ++ ys) → NoneApplies xs
@@ -73,8 +66,8 @@ module _ {R : Type 0} (refused : ℕ → R) where
       ((past .0, later .0), later .1)
 
   -- What relates each refusal to itself relates two results after the same tests, if it does where none applies.
-  pub same-tests :
+  pub same-after-tests :
       (S : R → R → Type 0) → ((n : ℕ) → S (refused n) (refused n)) → (ts : List Test) (x y : R) → (NoneApplies ts → S x y)
       → S (first-that-applies refused ts x) (first-that-applies refused ts y)
-  same-tests S r [] x y h = h tt
-  same-tests S r (t ∷ ts) x y h = same-test S (t .applies) (r (t .number)) (λ e. same-tests S r ts x y (λ n. h (e, n)))
+  same-after-tests S r [] x y h = h tt
+  same-after-tests S r (t ∷ ts) x y h = same-after-test S (t .applies) (r (t .number)) (λ e. same-after-tests S r ts x y (λ n. h (e, n)))

@@ -56,7 +56,7 @@ with-power P other p s = record { not-refused = s .not-refused; height = s .heig
 
 -- ---- the tests of one box of rates
 -- A box of rates, as wide as the largest full rate or the rate itself allows: 1-X is at least the least.
-abbrev pub rate-box : ℕ → ℕ → ℕ → ℕ → Bound
+abbrev rate-box : ℕ → ℕ → ℕ → ℕ → Bound
 rate-box widest least a b = box a b (min widest (burning-width least b))
 
 -- L is not refused, l and E are in their spans and l is no wider than allowed.

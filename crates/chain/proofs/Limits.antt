@@ -1,7 +1,7 @@
 -- The tests of one flux as facts: numbers inside their limits, an accepted enquiry as one to which no number applies, and the
 -- numbers of refusals above 0.
 -- By the laws of a list of tests. Assumes nothing.
-use mathlib.Core.Path.{_≡_, refl, subst}
+use mathlib.Core.Path.{_≡_, refl, subst, ap₂}
 use mathlib.Core.Bool.{Bool, true, false, _&&_, not}
 use Prim.Native.Nat.{ℕ, _≤_, _<_}
 use native.Mathlib.Nat.{le-trans}
@@ -14,9 +14,10 @@ use lib.IntN.{ℤ, pos, negsuc, natAbs}
 use Rattle.chain.specs.declared.enquiry.Enquiry.{Enquiry}
 use Rattle.chain.specs.declared.enquiry.Turned.{Turned}
 use Rattle.chain.specs.declared.enquiry.Turned.the-variants as turned
-use Rattle.chain.specs.Flux.{Shown, refused, number-of, outside, fuel-within, height-outside, flame-too-low, low-of, high-of, note-of, limits, flame-test, tests, flux-of}
+use Rattle.chain.specs.Flux.{Shown, refused, number-of, outside, fuel-within, height-outside, flame-too-low, accepted, limits, flame-test, tests, flux-of}
+use Rattle.chain.specs.Tests.{Test}
 use Rattle.chain.specs.Private.{NoneApplies, Limited}
-use Rattle.chain.proofs.FirstThatApplies.{every-number, by-numbers, none-of-first, none-of-last, none-of-both, in-two, none-told, past-tests}
+use Rattle.chain.proofs.FirstThatApplies.{every-test, by-every-test, none-of-first, none-of-last, none-of-both, in-two, none-told, past-tests}
 
 pub record Between (least n most : ℕ) : Type 0 where
   pub low : least ≤ n
@@ -111,32 +112,34 @@ pub tested : (E : Enquiry) → Limited E → flame-too-low E ≡ false → Teste
 tested E w f = none-of-both (limits E) (flame-test E) w (f, tt)
 
 -- Its figures are shown.
-pub shown : (E : Enquiry) → Tested E → flux-of E ≡ record { state = 0; low = low-of E; high = high-of E; note = note-of E }
+pub shown : (E : Enquiry) → Tested E → flux-of E ≡ accepted E
 unfolding flux-of
 shown E = none-told refused (tests E) _
 
 -- ---- what a state says of the tests
--- Their numbers are from 11 to 19.
+-- Their numbers are from 11 to 19. A state that is none of these is 0, and comes after all tests.
 abbrev from-11-to-19 : ℕ → Bool
 from-11-to-19 n = leb 11 n && leb n 19
 
--- A state that is none of these is 0, and comes after all tests.
 past-flux-tests : (E : Enquiry) (k : ℕ) → (T (from-11-to-19 k) → ⊥) → (flux-of E) .state ≡ k → Tested E × (0 ≡ k)
 unfolding flux-of limits
 past-flux-tests E k other e =
     past-tests refused (λ (s : Shown). s .state ≡ k) (tests E) _
-    (by-numbers (λ t. t .applies ≡ true → t .number ≡ k → ⊥) from-11-to-19 (λ t n _ z. other (subst (λ m. T (from-11-to-19 m)) z n)) (tests E) tt) e
+    (by-every-test (λ t. t .applies ≡ true → t .number ≡ k → ⊥) (λ t. from-11-to-19 (t .number)) (λ t n _ z. other (subst (λ m. T (from-11-to-19 m)) z n)) (tests E) tt) e
 
--- One that is none of the limits' numbers comes after the limits.
-pub past-limits : (E : Enquiry) (k : ℕ) → T (every-number (λ n. not (eqb n k)) (limits E)) → (flux-of E) .state ≡ k → Limited E
+-- A number that no test tells: none has it, or the one that has it does not apply.
+abbrev pub untold : ℕ → Test → Bool
+untold k t = not (eqb (t .number) k && t .applies)
+
+pub not-told : (k : ℕ) (t : Test) → T (untold k t) → t .applies ≡ true → t .number ≡ k → ⊥
+not-told k t u a z = subst (λ b. T (not b)) (ap₂ _&&_ (eq-eqb (t .number) k z) a) u
+
+-- A state that the limits do not tell comes after them.
+pub past-limits : (E : Enquiry) (k : ℕ) → T (every-test (untold k) (limits E)) → (flux-of E) .state ≡ k → Limited E
 unfolding flux-of
-past-limits E k other e =
-    past-tests refused (λ (s : Shown). s .state ≡ k) (limits E) _
-    (by-numbers (λ t. t .applies ≡ true → t .number ≡ k → ⊥) (λ n. not (eqb n k)) (λ t n _ z. differ (t .number) k n z) (limits E) other)
+past-limits E k u e =
+    past-tests refused (λ (s : Shown). s .state ≡ k) (limits E) _ (by-every-test _ (untold k) (not-told k) (limits E) u)
     (rw (in-two refused (limits E) (flame-test E) _) at e) .0
-  where
-    differ : (n k : ℕ) → T (not (eqb n k)) → n ≡ k → ⊥
-    differ n k t z = subst (λ b. T (not b)) (eq-eqb n k z) t
 
 pub accepted-tested : (E : Enquiry) → (flux-of E) .state ≡ 0 → Tested E
 accepted-tested E e = past-flux-tests E 0 (λ t. t) e .0

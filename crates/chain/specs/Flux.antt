@@ -45,8 +45,7 @@ abbrev pub outside : ℕ → ℕ → ℕ → Bool
 outside least most n = not (leb least n && leb n most)
 
 -- "burning rate m of a large pool, 10 to 150 g/(m²·s); absorption k, 10 to 500 hundredths per metre; heat of combustion c,
--- 100 to 500 tenths of MJ/kg; area a, 100 to 190,000 dm²; method 1 or 2; rim distance d, 1,000 to 200,000 mm; face 1, 2 or 3"; and
--- request 5: "Number 13 now means a method outside 1 to 3."
+-- 100 to 500 tenths of MJ/kg"
 unfoldable pub fuel-within : Enquiry → Bool
 fuel-within E =
     not (outside 10 150 (E .rate)) && not (outside 10 500 (E .absorption)) && not (outside 100 500 (E .heat))
@@ -71,8 +70,14 @@ high-of E = up (1000 * (radiant-flux rounded E) .high) U
 unfoldable pub note-of : Enquiry → ℕ
 note-of E = elim (eqb (E .method) 1 && leb (low-of E) 5000) [ true ↦ 1 | false ↦ 0 ]
 
--- "11, a fuel number outside its limits; 12, area; 13, method; 14, rim distance; 15, face"; request 1: "18, height outside its limits,
--- after 15 and before 16"; request 3: "19, transmissivity outside its limits, after 18 and before 16"; "in thousandths, .. 1 to 1,000".
+-- State 0, with what is printed.
+abbrev pub accepted : Enquiry → Shown
+accepted E = record { state = 0; low = low-of E; high = high-of E; note = note-of E }
+
+-- "11, a fuel number outside its limits; 12, area; 13, method; 14, rim distance; 15, face", with "area a, 100 to 190,000 dm²; method 1
+-- or 2; rim distance d, 1,000 to 200,000 mm; face 1, 2 or 3"; request 5: "Number 13 now means a method outside 1 to 3."; request 1: "18,
+-- height outside its limits, after 15 and before 16"; request 3: "19, transmissivity outside its limits, after 18 and before 16"; "in
+-- thousandths, .. 1 to 1,000".
 unfoldable pub limits : Enquiry → List Test
 limits E =
     test 11 (not (fuel-within E))
@@ -93,4 +98,4 @@ tests E = limits E ++ flame-test E
 
 -- "Returns zeros for low, high and note. An enquiry is accepted exactly when no number of this group applies to it."
 unfoldable pub flux-of : Enquiry → Shown
-flux-of E = first-that-applies refused (tests E) (record { state = 0; low = low-of E; high = high-of E; note = note-of E })
+flux-of E = first-that-applies refused (tests E) (accepted E)

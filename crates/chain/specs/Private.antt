@@ -20,10 +20,13 @@ use Rattle.chain.specs.Chain as chain
 use Rattle.chain.specs.Tests.{Test}
 use Rattle.chain.specs.Flux.{limits}
 
--- No test of a list applies.
+-- What holds of each test of a list; and that none applies.
+abbrev pub EachTest : (Test → Type 0) → List Test → Type 0
+EachTest P [] = Unit {0}
+EachTest P (t ∷ ts) = P t × EachTest P ts
+
 abbrev pub NoneApplies : List Test → Type 0
-NoneApplies [] = Unit {0}
-NoneApplies (t ∷ ts) = (t .applies ≡ false) × NoneApplies ts
+NoneApplies ts = EachTest (λ t. t .applies ≡ false) ts
 
 -- No number from 11 to 15 applies, nor 18 or 19.
 abbrev pub Limited : Enquiry → Type 0

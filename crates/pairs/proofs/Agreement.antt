@@ -35,6 +35,9 @@ refuse-passed b n f h =
     let failed = past-test (λ (f : Figures). f .number ≡ 0) b (λ _ e. omega (arith, e)) h .0 in
     ((λ t. subst T failed t), rw failed)
 
+pub past-refusal : (b : Bool) (n : ℕ) (f : Figures) → (refuse b (refused (suc n)) f) .number ≡ 0 → f .number ≡ 0
+past-refusal b n f h = rw (refuse-passed b n f h .1) at h
+
 pub fitting-passed : (p : Pair) → (fitting p) .number ≡ 0 → fitting p ≡ given p
 unfolding fitting
 fitting-passed p h = refuse-passed (leb (2 ^ 64) (p .high)) 63 (given p) h .1
@@ -111,7 +114,7 @@ admit-two-same : {r : Pair} (p q : Pair) (f : Figures) → (f .number ≡ 0 → 
 admit-two-same p q f h = admit-same p (admit q f) (admit-same q f h)
 
 pub past-admit : (p : Pair) (f : Figures) → (admit p f) .number ≡ 0 → f .number ≡ 0
-past-admit p f z = rw (refuse-passed (ltb (p .high) (p .low)) 60 f z .1) at z
+past-admit p f = past-refusal (ltb (p .high) (p .low)) 60 f
 
 -- A test that lets the pair itself through.
 let-through : {a : Figures} {p : Pair} (b : Bool) → Agrees a p → Agrees (after a (admit (a .pair) (refuse b (refused 63) (given (a .pair))))) p

@@ -11,8 +11,8 @@ past-test P true other h = absurd (other refl h)
 past-test P false other h = (refl, h)
 
 -- What relates the refusal to itself relates two results after the same test, if it does where the test fails.
-pub same-test :
+pub same-after-test :
     {X : Type 0} (S : X → X → Type 0) (b : Bool) {refusal x y : X} → S refusal refusal → (b ≡ false → S x y)
     → S (refuse b refusal x) (refuse b refusal y)
-same-test S true r h = r
-same-test S false r h = h refl
+same-after-test S true r h = r
+same-after-test S false r h = h refl

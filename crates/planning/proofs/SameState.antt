@@ -1,15 +1,14 @@
 -- Request 7: "Flux refusals do not depend on the distance inside the span."; and 14 is none of them there. 14 is the only test that
 -- reads the distance, and 16 reads the pool alone, by a law of `chain`: so the tests are the same. Assumes nothing.
-use mathlib.Core.Path.{_≡_, refl, sym, ap, _∙_}
-use mathlib.Core.Bool.{false≢true}
+use mathlib.Core.Path.{_≡_, refl, ap, _∙_}
 use mathlib.Core.List.{List}
 use Prim.Native.Nat.{ℕ, _≤_}
 use native.Mathlib.Omega.{arith}
-use Rattle.chain.specs.declared.enquiry.Enquiry.{Enquiry}
+use lib.Dec.{T}
 use Rattle.chain.specs.Tests.{Test, first-that-applies}
-use Rattle.chain.specs.Flux.{Shown, refused, fuel-within, low-of, high-of, note-of, limits, tests, flux-of}
-use Rattle.chain.proofs.FirstThatApplies.{past-tests, same-tests}
-use Rattle.chain.proofs.Limits.{inside}
+use Rattle.chain.specs.Flux.{Shown, refused, fuel-within, accepted, limits, tests, flux-of}
+use Rattle.chain.proofs.FirstThatApplies.{every-test, by-every-test, past-tests, same-after-tests}
+use Rattle.chain.proofs.Limits.{inside, untold, not-told}
 use Rattle.chain.proofs.PoolAlone.{same-flame-test}
 use Rattle.planning.specs.declared.scenario.Scenario.{Scenario}
 use Rattle.planning.specs.Scenario.{at-distance}
@@ -25,31 +24,15 @@ pub same-state :
     → flux-of (at-distance S a) .state ≡ flux-of (at-distance S b) .state
 unfolding flux-of
 same-state S a b la ha lb hb =
-    let A = at-distance S a in
     let B = at-distance S b in
-    same-tests refused (λ s t. s .state ≡ t .state) (λ _. refl) (tests A) _ (figures B) (λ _. refl)
-    ∙ ap (λ (ts : List Test). first-that-applies refused ts (figures B) .state) (same S a b la ha lb hb)
-  where
-    figures : Enquiry → Shown
-    figures E = record { state = 0; low = low-of E; high = high-of E; note = note-of E }
+    same-after-tests refused (λ s t. s .state ≡ t .state) (λ _. refl) (tests (at-distance S a)) _ (accepted B) (λ _. refl)
+    ∙ ap (λ (ts : List Test). first-that-applies refused ts (accepted B) .state) (same S a b la ha lb hb)
 
--- 14 is not given inside the span.
+-- 14 is not given inside the span: its test does not apply.
 pub never-14 : (S : Scenario) (d : ℕ) → 1_000 ≤ d → d ≤ 200_000 → flux-of (at-distance S d) .state ≡ 14 → ⊥
 unfolding flux-of limits
 never-14 S d l h e =
-    let past =
-    past-tests refused (λ (s : Shown). s .state ≡ 14) (tests (at-distance S d)) _ (
-      λ _ z. omega (arith, z),
-      (
-        λ _ z. omega (arith, z),
-        (
-          λ _ z. omega (arith, z),
-          (
-            λ t _. false≢true (sym (inside 1_000 200_000 d l h) ∙ t),
-            (λ _ z. omega (arith, z), (λ _ z. omega (arith, z), (λ _ z. omega (arith, z), (λ _ z. omega (arith, z), tt)))),
-          ),
-        ),
-      ),
-    )
-    e in
+    let E = at-distance S d in
+    let u : T (every-test (untold 14) (tests E)) = rw (inside 1_000 200_000 d l h) tt in
+    let past = past-tests refused (λ (s : Shown). s .state ≡ 14) (tests E) _ (by-every-test _ (untold 14) (not-told 14) (tests E) u) e in
     omega (arith, past .1)

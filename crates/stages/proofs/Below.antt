@@ -11,7 +11,7 @@ use Rattle.pairs.specs.Rounded.{U, is-cold, cold-pair}
 use Rattle.pairs.specs.Figures.{Figures, given, refused, refuse, after}
 use Rattle.pairs.specs.Answers as A
 use Rattle.pairs.specs.Answers.{answers, admit, fitting}
-use Rattle.pairs.proofs.Agreement.{Agrees, after-passed, refuse-passed, past-admit, fitting-below, agreement}
+use Rattle.pairs.proofs.Agreement.{Agrees, after-passed, past-refusal, past-admit, fitting-below, agreement}
 use Rattle.pairs.proofs.Kept.{Kept}
 use Rattle.stages.specs.Stages as S
 use Rattle.stages.specs.Stages.{Stage, on-one, on-two, stages}
@@ -69,16 +69,13 @@ two-tested {a} {b} operation h k agrees =
     (λ z. fitting-below result (past-admit (b .pair) (fitting result) (past-admit (a .pair) (admit (b .pair) (fitting result)) z)))
 
 -- One that tests 62 between them.
-past-62 : (b : Bool) (f : Figures) → (refuse b (refused 62) f) .number ≡ 0 → f .number ≡ 0
-past-62 b f z = rw (refuse-passed b 61 f z .1) at z
-
 quotient-below : {a b : Figures} {s r : Stage} → Below a s → Below b r → Below (A.quotient a b) (on-two R.quotient s r)
 unfolding A.quotient A.quotient-of
 quotient-below {a} {b} h k =
     let result = R.quotient (a .pair) (b .pair) in
     let divided = refuse (eqb (b .pair .low) 0) (refused 62) (fitting result) in
     two-below (admit (a .pair) (admit (b .pair) divided)) R.quotient h k (agreement .quotient (h .agrees) (k .agrees))
-    (λ z. fitting-below result (past-62 (eqb (b .pair .low) 0) (fitting result) (past-admit (b .pair) divided (past-admit (a .pair) (admit (b .pair) divided) z))))
+    (λ z. fitting-below result (past-refusal (eqb (b .pair .low) 0) 61 (fitting result) (past-admit (b .pair) divided (past-admit (a .pair) (admit (b .pair) divided) z))))
 
 over-below : {a : Figures} {s : Stage} → Below a s → (n : ℕ) → Below (A.over a n) (on-one (λ p. R.over p n) s)
 unfolding A.over A.over-of
@@ -86,7 +83,7 @@ over-below {a} h n =
     let result = R.over (a .pair) n in
     let divided = refuse (eqb n 0) (refused 62) (fitting result) in
     one-below (admit (a .pair) divided) (λ p. R.over p n) h (agreement .over (h .agrees) n)
-    (λ z. fitting-below result (past-62 (eqb n 0) (fitting result) (past-admit (a .pair) divided z)))
+    (λ z. fitting-below result (past-refusal (eqb n 0) 61 (fitting result) (past-admit (a .pair) divided z)))
 
 -- A last term is not tested for 61.
 high-only-below : {a : Figures} {s : Stage} → Below a s → Below (A.high-only a) (on-one R.high-only s)

@@ -22,13 +22,13 @@ use Rattle.stages.specs.Claims.{InsideLimits, Claims}
 use Rattle.stages.proofs.Below.{below}
 
 -- Neither 0 nor 16 is a number of the limits.
-inside : (E : Enquiry) → InsideLimits E → Limited E
+limits-passed : (E : Enquiry) → InsideLimits E → Limited E
 unfolding limits
-inside E (inl e) = past-limits E _ tt e
-inside E (inr e) = past-limits E _ tt e
+limits-passed E (inl e) = past-limits E _ tt e
+limits-passed E (inr e) = past-limits E _ tt e
 
 not-refused : (E : Enquiry) → InsideLimits E → (radiant-flux answers E) .number ≡ 0
-not-refused E s = ap (λ (f : Figures). f .number) (unrefused E (inside E s) .flux-given)
+not-refused E s = ap (λ (f : Figures). f .number) (unrefused E (limits-passed E s) .flux-given)
 
 -- A stage has the pair that `rounded` has.
 abbrev SamePair : Stage → Pair → Type 0
@@ -60,5 +60,6 @@ claims =
     record {
       no-stage-too-large = λ E s. omega (arith, radiant-flux-kept below E .below (not-refused E s));
       no-operation-refused = not-refused;
+      no-figure-too-large = λ E s. omega (arith, unrefused E (limits-passed E s) .high);
       same-chain = radiant-flux-kept same-pairs;
     }

@@ -2,7 +2,6 @@
 -- and 2, on each face, at each height, through each haze. The flame is bounded by computation. Assumes nothing.
 use mathlib.Core.Path.{_≡_, refl, ap, _∙_}
 use mathlib.Core.Bool.{true, false, _&&_}
-use mathlib.Core.Logic.{inr}
 use Prim.Native.Nat.{ℕ, zero, suc, _*_, _≤_, _<_}
 use native.Mathlib.Omega.{arith}
 use lib.IntN.{ℤ}
@@ -22,7 +21,6 @@ use Rattle.chain.proofs.Opened.{opened}
 use Rattle.chain.proofs.Limits.{inside}
 use Rattle.chain.proofs.FirstThatApplies.{told, in-two, none-told}
 use Rattle.chain.proofs.Unrefused.{unrefused}
-use Rattle.stages.specs.Claims.{InsideLimits}
 
 abbrev case-M : ℕ → ℕ → ℤ → ℕ → Enquiry
 case-M method face height transmissivity =
@@ -75,11 +73,8 @@ module _ (face : ℕ) (height : ℤ) (transmissivity : ℕ) where
         let lower : 4 * (flame-height-of answers E) .pair .low < (diameter-of answers E) .pair .high = omega (arith, below, d .inside .low, d .inside .ordered, l .inside .ordered, l .inside .high) in
         lt-ltb (4 * (flame-height-of rounded E) .low) ((diameter-of rounded E) .high) (rw (same .diameter-given, same .flame-height-given) at lower)
 
-    is-16 : (flux-of E) .state ≡ 16
+    pub low-flame : (flux-of E) .state ≡ 16
     unfolding flux-of
-    is-16 =
+    low-flame =
         ap (λ (s : Shown). s .state)
         (in-two refused (limits E) (flame-test E) _ ∙ none-told refused (limits E) _ within-limits ∙ told refused 0 (flame-test E) 16 _ (too-low, refl))
-
-    pub low-flame : InsideLimits E
-    low-flame = inr is-16

@@ -2,14 +2,18 @@
 -- number it got before." By the law that no operation refuses where no test applies. Assumes nothing.
 use mathlib.Core.Path.{_≡_, refl, _∙_}
 use mathlib.Core.Bool.{Bool, not}
+use Prim.Native.Nat.{ℕ}
 use lib.Dec.{eqb}
-use Rattle.pairs.specs.Figures.{refuse}
+use Rattle.pairs.specs.Rounded.{ends, rounded}
+use Rattle.pairs.specs.Figures as figures
+use Rattle.pairs.specs.Figures.{Figures, given, refuse}
 use Rattle.pairs.specs.Answers.{answers}
 use Rattle.chain.specs.declared.enquiry.Enquiry.{Enquiry}
-use Rattle.chain.specs.Chain.{radiant-flux}
+use Rattle.chain.specs.Chain.{factor, radiant-flux}
 use Rattle.chain.specs.Tests.{first-that-applies}
-use Rattle.chain.specs.Flux.{Shown, refused, outside, fuel-within, height-outside, flame-too-low, low-of, high-of, note-of, limits, tests, flux-of}
-use Rattle.chain.proofs.FirstThatApplies.{same-tests}
+use Rattle.chain.specs.Flux.{Shown, refused, outside, fuel-within, height-outside, flame-too-low, accepted, limits, tests, flux-of}
+use Rattle.chain.specs.Factor.{factor-tests, factor-of}
+use Rattle.chain.proofs.FirstThatApplies.{same-after-tests}
 use Rattle.chain.proofs.Limits.{limited}
 use Rattle.chain.proofs.Unrefused.{unrefused}
 
@@ -28,13 +32,10 @@ former-flux-of E =
     (refuse (outside 1 1_000 (E .transmissivity)) (refused 19)
     (refuse (flame-too-low E) (refused 16)
     (refuse (stage-too-large E) (refused 17)
-    (record { state = 0; low = low-of E; high = high-of E; note = note-of E })))))))))
-
-abbrev figures : Enquiry → Shown
-figures E = record { state = 0; low = low-of E; high = high-of E; note = note-of E }
+    (accepted E)))))))))
 
 -- The tests of today, and then 17.
-with-17 : (E : Enquiry) → former-flux-of E ≡ first-that-applies refused (tests E) (refuse (stage-too-large E) (refused 17) (figures E))
+with-17 : (E : Enquiry) → former-flux-of E ≡ first-that-applies refused (tests E) (refuse (stage-too-large E) (refused 17) (accepted E))
 unfolding former-flux-of limits
 with-17 E = refl
 
@@ -42,4 +43,16 @@ pub nothing-moved : (E : Enquiry) → former-flux-of E ≡ flux-of E
 unfolding flux-of
 nothing-moved E =
     with-17 E
-    ∙ same-tests refused (λ s t. s ≡ t) (λ _. refl) (tests E) _ (figures E) (λ none. rw (unrefused E (limited E none) .flux-given))
+    ∙ same-after-tests refused (λ s t. s ≡ t) (λ _. refl) (tests E) _ (accepted E) (λ none. rw (unrefused E (limited E none) .flux-given))
+
+-- The factor alone was written test by test too.
+unfoldable pub former-factor-of : ℕ → ℕ → ℕ → Figures
+former-factor-of l e face =
+    refuse (outside 0 40_000_000_000_000 l) (figures.refused 21)
+    (refuse (outside 40_000_000_000 400_000_000_000_000 e) (figures.refused 22)
+    (refuse (outside 1 3 face) (figures.refused 23)
+    (given (factor rounded face (ends l l) (ends e e)))))
+
+pub no-factor-moved : (l e face : ℕ) → former-factor-of l e face ≡ factor-of l e face
+unfolding former-factor-of factor-of factor-tests
+no-factor-moved l e face = refl

@@ -12,7 +12,7 @@ use Rattle.chain.specs.declared.enquiry.Enquiry.{Enquiry}
 use Rattle.chain.specs.declared.enquiry.Printed.{Printed}
 use Rattle.chain.specs.Chain as chain
 use Rattle.chain.specs.Tests.{first-that-applies}
-use Rattle.chain.specs.Flux.{Shown, refused, flame-too-low, low-of, high-of, note-of, limits, flame-test, flux-of}
+use Rattle.chain.specs.Flux.{Shown, refused, flame-too-low, low-of, high-of, note-of, accepted, limits, flame-test, flux-of}
 use Rattle.chain.specs.Private.{Limited, Prints}
 use Rattle.chain.proofs.FirstThatApplies.{told, in-two, none-told}
 use Rattle.chain.proofs.Limits.{numbers, tested, shown}
@@ -23,7 +23,7 @@ use Rattle.chain.proofs.flux.flux_within.Tie as tie
 
 module _ (E : Enquiry) (w : Limited E) where
   -- the tests of the numbers do not apply, so the flame test is left
-  flame-test-left : flux-of E ≡ first-that-applies refused (flame-test E) (record { state = 0; low = low-of E; high = high-of E; note = note-of E })
+  flame-test-left : flux-of E ≡ first-that-applies refused (flame-test E) (accepted E)
   unfolding flux-of
   flame-test-left = in-two refused (limits E) (flame-test E) _ ∙ none-told refused (limits E) _ w
 
