@@ -2,7 +2,7 @@
 use pairs::answer::Pair;
 
 // The whole numbers of one enquiry, in document 01's units.
-#[derive(Drop)]
+#[derive(Clone, Copy)]
 pub struct Enquiry {
     // burning rate m of a large pool, g/(m²·s)
     pub rate: u16,
@@ -25,7 +25,7 @@ pub struct Enquiry {
 }
 
 // Low and high in W/m², and the note.
-#[derive(Drop)]
+#[derive(Clone, Copy)]
 pub struct Printed {
     pub low: u32,
     pub high: u32,
@@ -33,7 +33,7 @@ pub struct Printed {
 }
 
 // Why an enquiry is turned back: 11 to 15, 18, 19 and 16 of documents 01 and 02, in this order.
-#[derive(Drop)]
+#[derive(Clone, Copy)]
 pub enum Turned {
     Fuel,
     Area,
@@ -45,21 +45,21 @@ pub enum Turned {
     LowFlame,
 }
 
-#[derive(Drop)]
+#[derive(Clone, Copy)]
 pub enum Flux {
     Is(Printed),
     Refused(Turned),
 }
 
 // Why a factor is refused: 21, 22 and 23 of document 01, in this order.
-#[derive(Drop)]
+#[derive(Clone, Copy)]
 pub enum Outside {
     Height,
     Distance,
     Face,
 }
 
-#[derive(Drop)]
+#[derive(Clone, Copy)]
 pub enum Factor {
     Is(Pair),
     Refused(Outside),

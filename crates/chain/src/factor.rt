@@ -31,7 +31,7 @@ fn g_of(e: Answer) -> Answer
 }
 
 // What every face needs of e: g·g, e·e, e·g and r = root(e/g).
-#[derive(Drop)]
+#[derive(Clone, Copy)]
 struct DistanceTerms {
     e: Answer,
     gg: Answer,
@@ -52,7 +52,7 @@ fn distance_terms(e: Answer) -> DistanceTerms
 }
 
 // What the vertical face needs besides: x, x·x, atan(r) and root(e·g).
-#[derive(Drop)]
+#[derive(Clone, Copy)]
 struct Upright {
     e: Answer,
     x: Answer,
@@ -89,7 +89,7 @@ fn level_angle(e: Answer) -> Answer
 }
 
 // What both faces need of y in l's place: y·y, u·v and A = atan((r·u)/v).
-#[derive(Drop)]
+#[derive(Clone, Copy)]
 struct Seen {
     y: Answer,
     yy: Answer,
@@ -169,7 +169,7 @@ fn horizontal(seen: Seen, terms: DistanceTerms, angle: Answer) -> Answer
     quotient_of(difference_of(angle, product_of(ratio, tilt)), pi_answer())
 }
 
-// The tilted face: root(Fv.Fv + Fh.Fh). It is the most exposed one of a target at or below the base; above it Fh looks up only.
+// The tilted face: root(Fv·Fv + Fh·Fh). It is the most exposed one of a target at or below the base; above it Fh looks up only.
 fn most_exposed(upright: Answer, level: Answer) -> Answer
     ensures { figures result ≡ chain.most_exposed answers (figures upright) (figures level) }
 {

@@ -32,7 +32,7 @@ fn transmitted(transmissivity: u64, clear: Answer) -> Answer
     over_of(times_of(clear, transmissivity), 1_000)
 }
 
-// 8. q, which is E.F times the transmissivity over 1,000.
+// 8. q, which is E·F times the transmissivity over 1,000.
 fn radiant_flux(e: Enquiry, diameter: Answer, flame: PoolFlame) -> Answer
     requires diameter_value { figures diameter ≡ chain.diameter_of answers e }
     requires flame_of { FlameOf e flame }

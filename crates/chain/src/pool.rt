@@ -22,7 +22,7 @@ pub(crate) fn diameter(area: u32) -> Answer
     root_of(quotient_of(exact(a * 40_000_000_000), pi_answer()))
 }
 
-// 2. X = exp(-(typeof.k.D over 100)).
+// 2. X = exp(-(k·D over 100)).
 fn unabsorbed(absorption: u16, diameter: Answer) -> Answer
     ensures { figures result ≡ chain.unabsorbed answers absorption (figures diameter) }
 {
@@ -73,7 +73,7 @@ fn emissive_power_1(diameter: Answer) -> Answer
     )
 }
 
-// typeof.pi.D.L + (pi·(D.D) over 4).
+// pi·D·L + (pi·(D·D) over 4).
 fn flame_surface(diameter: Answer, height: Answer) -> Answer
     ensures { figures result ≡ chain.flame_surface answers (figures diameter) (figures height) }
 {
@@ -84,7 +84,7 @@ fn flame_surface(diameter: Answer, height: Answer) -> Answer
     )
 }
 
-// Method 2: f = 0.21 - 0.0034·D; E = (typeof.f.Q)/(typeof.pi.D.L + (pi·(D.D) over 4)).
+// Method 2: f = 0.21 - 0.0034·D; E = (f·Q)/(pi·D·L + (pi·(D·D) over 4)).
 fn emissive_power_2(diameter: Answer, heat: Answer, height: Answer) -> Answer
     ensures { figures result ≡ chain.emissive_power_2 answers (figures diameter) (figures heat) (figures height) }
 {
@@ -96,7 +96,7 @@ fn emissive_power_2(diameter: Answer, heat: Answer, height: Answer) -> Answer
 }
 
 // A flame over a pool: L and E.
-#[derive(Drop)]
+#[derive(Clone, Copy)]
 pub(crate) struct PoolFlame {
     pub height: Answer,
     pub power: Answer,

@@ -1,11 +1,13 @@
 // The desk: reads a sheet on standard input and prints its report.
+#![tactic(auto)]
+
 ghost use Rattle.std.specs.Prelude.{length};
 ghost use Rattle.desk.specs.Input.{within, whole};
 
 use libc::{STDERR_FILENO, STDIN_FILENO, STDOUT_FILENO};
 
 // What one read gave.
-#[derive(Drop)]
+#[derive(Clone, Copy)]
 enum Piece {
     Bytes(usize),
     End,
@@ -13,7 +15,7 @@ enum Piece {
 }
 
 // What was read in all.
-#[derive(Drop)]
+#[derive(Clone, Copy)]
 enum Input {
     Whole(usize),
     Failed,

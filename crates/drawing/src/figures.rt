@@ -6,14 +6,14 @@ use chain::enquiry::{Enquiry, Flux};
 use chain::flux::{flux, number};
 
 // Low and high in W/m², or the number of the refusal.
-#[derive(Drop)]
+#[derive(Clone, Copy)]
 pub enum Ends {
     Answered(f64, f64),
     Refused(u8),
 }
 
 // Low, middle and high in W/m².
-#[derive(Drop)]
+#[derive(Clone, Copy)]
 pub struct Group {
     pub low: f64,
     pub middle: f64,

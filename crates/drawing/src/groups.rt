@@ -10,7 +10,7 @@ use sheet::fill::fill;
 
 // The number of the sheet's refusal, or 0; how many targets it has; and the group of each, in their order, with three zeros past
 // the last one.
-#[derive(Drop)]
+#[derive(Clone, Copy)]
 pub struct Groups {
     pub number: u8,
     pub count: usize,

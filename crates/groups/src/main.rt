@@ -1,4 +1,6 @@
 // The groups of sheets in hexadecimal on standard input, one to a line: the 64 bits of each float, in decimal.
+#![tactic(auto)]
+
 ghost use Rattle.std.specs.Prelude.{◌≡◌, true, ◌≤◌};
 ghost use Rattle.drawing.specs.Claims.{plain_group};
 
@@ -10,7 +12,7 @@ use libc::{STDIN_FILENO, STDOUT_FILENO};
 const NONE: u8 = 16;
 
 // The line so far: how many bytes of the sheet are there, and the first digit of the next one.
-#[derive(Drop)]
+#[derive(Clone, Copy)]
 struct Line {
     filled: usize,
     digit: u8,

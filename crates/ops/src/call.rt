@@ -13,7 +13,7 @@ use planning::stand_off::StandOff;
 use register::calls::Outcome;
 use register::sums::Totals;
 
-#[derive(Drop)]
+#[derive(Clone, Copy)]
 pub(crate) enum Reply {
     Operation(Answer),
     Enquiry(Flux),

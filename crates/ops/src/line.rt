@@ -2,7 +2,7 @@
 ghost use Rattle.std.specs.Prelude.{◌≤◌, length};
 
 // The numbers of a line, in its order, at most 14; each may have a sign. A line that cannot be read is not readable, whatever follows.
-#[derive(Drop)]
+#[derive(Clone, Copy)]
 pub(crate) struct Numbers {
     pub(crate) readable: bool,
     // whether a blank or a sign was the last byte: a digit is to follow

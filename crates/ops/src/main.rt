@@ -2,6 +2,8 @@
 // distance in decimetres, for a free place its row and place, for a call on the register how many pools burn, the two ends or sums, and for
 // an enquiry the note. Which pools put it over: the state, how many they are, and their numbers. A line that cannot be read prints
 // `unreadable`. The register is empty at the start and goes from line to line.
+#![tactic(auto)]
+
 mod call;
 mod enquiry;
 mod from_limit;

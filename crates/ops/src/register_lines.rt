@@ -8,7 +8,7 @@ use register::places::Register;
 use register::sums::sums;
 
 // What a line is answered, and the register after it.
-#[derive(Drop)]
+#[derive(Clone, Copy)]
 pub(crate) struct ReplyAndRegister {
     pub(crate) reply: Reply,
     pub(crate) register: Register,

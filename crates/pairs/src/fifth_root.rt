@@ -81,7 +81,7 @@ fn guess(x: u64) -> u64
 }
 
 // Two numbers, the fifth power of the lower at most a bound, and that of the upper above it.
-#[derive(Drop)]
+#[derive(Clone, Copy)]
 struct Bracket {
     lower: u64,
     upper: u64,

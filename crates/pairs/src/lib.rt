@@ -1,5 +1,7 @@
 // Rounded pairs of trillionths and the series on them: document 01, "Pairs of trillionths" and "Series".
 // Each public operation equals its definition in specs/Answers.antt on all inputs.
+#![tactic(auto)]
+
 pub mod answer;
 pub mod arc;
 pub mod atan;

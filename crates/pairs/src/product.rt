@@ -1,4 +1,4 @@
-// The product of two pairs. With a = typeof.a1.U + a0 and c = typeof.c1.U + c0, a·c/U is a1·c1·U + a1·c0 + a0·c1 + a0·c0/U, and the last
+// The product of two pairs. With a = a1·U + a0 and c = c1·U + c0, a·c/U is a1·c1·U + a1·c0 + a0·c1 + a0·c0/U, and the last
 // part goes by base 10^6, so that no number has two words. An end is rounded by `extra`: 0 for down, ROUND_UP for up.
 ghost use Rattle.std.specs.Prelude.{◌≡◌, ◌*◌, ◌^◌, ◌≤◌, ◌<◌, ltb};
 ghost use Rattle.pairs.specs.Rounded.{U};

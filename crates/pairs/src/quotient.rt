@@ -7,7 +7,7 @@ ghost use Rattle.pairs.specs.Answers.{quotient_of};
 use super::answer::{Answer, Pair};
 use super::words::{Words, divided, in_trillionths};
 
-// typeof.b.U + (c - 1), whose quotient by c, rounded down, is that of typeof.b.U rounded up.
+// b·U + (c - 1), whose quotient by c, rounded down, is that of b·U rounded up.
 fn raised(b: u64, c: u64) -> Words
     requires { 0 < c }
     ensures { result.high * 2 ^ 64 + result.low ≡ b * U + (c - 1) }

@@ -80,7 +80,7 @@ fn whole_root(n: Words, near: u64) -> u64
     s
 }
 
-// Near the root of typeof.a.U.
+// Near the root of a·U.
 fn start_of(a: u64) -> u64
     ensures { result < 2 ^ 63 }
 {
@@ -90,7 +90,7 @@ fn start_of(a: u64) -> u64
     start(in_trillionths(a))
 }
 
-// The greatest s with s·s at most typeof.a.U.
+// The greatest s with s·s at most a·U.
 fn root_down_of(a: u64, near: u64) -> u64
     requires { near < 2 ^ 63 }
     ensures { result ≡ root_down (a * U) }
@@ -101,7 +101,7 @@ fn root_down_of(a: u64, near: u64) -> u64
     whole_root(in_trillionths(a), near)
 }
 
-// The least s with s·s at least b·U: one more than the root of typeof.b.U - 1.
+// The least s with s·s at least b·U: one more than the root of b·U - 1.
 fn root_up_of(b: u64, near: u64) -> u64
     requires { near < 2 ^ 63 }
     ensures { result ≡ root_up (b * U) }

@@ -2,7 +2,7 @@
 ghost use Rattle.std.specs.Prelude.{◌≡◌, ◌+◌, ◌*◌, ◌/◌, ◌^◌, ◌≤◌, ◌<◌, ltb};
 ghost use Rattle.pairs.specs.Rounded.{U};
 
-#[derive(Drop)]
+#[derive(Clone, Copy)]
 pub(crate) struct Words {
     pub(crate) high: u64,
     pub(crate) low: u64,
@@ -25,7 +25,7 @@ pub(crate) fn multiplied(a: u64, b: u64) -> Words
     }
 }
 
-// typeof.a.U. U is 5^12·2^12, and a·5^12 goes by digits of 32 bits.
+// a·U. U is 5^12·2^12, and a·5^12 goes by digits of 32 bits.
 pub(crate) fn in_trillionths(a: u64) -> Words
     ensures { result.high * 2 ^ 64 + result.low ≡ a * U }
 {
@@ -67,7 +67,7 @@ pub(crate) fn one_less(n: Words) -> Words
 }
 
 // One digit of a quotient and what it leaves.
-#[derive(Drop)]
+#[derive(Clone, Copy)]
 struct Digit {
     quotient: u64,
     rest: u64,

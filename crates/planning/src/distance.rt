@@ -10,10 +10,10 @@ use pairs::over::over;
 use pairs::quotient::quotient;
 use pairs::root::root;
 
-#[derive(Drop)]
+#[derive(Clone, Copy)]
 pub(crate) struct CentreMillimetres(pub(crate) u32);
 
-#[derive(Drop)]
+#[derive(Clone, Copy)]
 pub(crate) struct RimMillimetres(pub(crate) u32);
 
 // From the centre to the rim: the only way.

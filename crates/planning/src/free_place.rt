@@ -13,7 +13,7 @@ use chain::enquiry::{Flux, Turned};
 use chain::flux::flux;
 
 // A place of the grid, row and place from 0, and low and high there in W/m².
-#[derive(Drop)]
+#[derive(Clone, Copy)]
 pub struct Place {
     pub row: u32,
     pub place: u32,
@@ -22,7 +22,7 @@ pub struct Place {
 }
 
 // The first free place; or why there is none: the flux is refused, the grid is outside its limits (42), or no place is free (43).
-#[derive(Drop)]
+#[derive(Clone, Copy)]
 pub enum FreePlace {
     Is(Place),
     Refused(Turned),
@@ -31,7 +31,7 @@ pub enum FreePlace {
 }
 
 // A rim distance, and low and high there.
-#[derive(Drop)]
+#[derive(Clone, Copy)]
 struct PairAtRim {
     rim: RimMillimetres,
     low: u32,

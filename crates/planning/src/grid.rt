@@ -8,7 +8,7 @@ use super::distance::{CentreMillimetres, RimMillimetres, to_rim, whole_root};
 use super::limits::outside;
 
 // Rows of points, all the spacing apart, and the first corner from the pool's centre.
-#[derive(Drop)]
+#[derive(Clone, Copy)]
 pub struct Grid {
     pub rows: u32,
     // how many places each row has

@@ -5,7 +5,7 @@ ghost use Rattle.planning.specs.Scenario.{at_distance};
 use chain::enquiry::Enquiry;
 
 // The whole numbers of an enquiry but the rim distance, in document 01's units.
-#[derive(Drop)]
+#[derive(Clone, Copy)]
 pub struct Scenario {
     // burning rate m of a large pool, g/(m²·s)
     pub rate: u16,

@@ -9,7 +9,7 @@ use chain::enquiry::{Flux, Turned};
 use chain::flux::flux;
 
 // A rim distance in decimetres, and low and high there in W/m².
-#[derive(Drop)]
+#[derive(Clone, Copy)]
 pub struct PairAt {
     pub decimetres: u32,
     pub low: u32,
@@ -17,7 +17,7 @@ pub struct PairAt {
 }
 
 // The stand-off; or why there is none: the flux is refused, or its high figure is over the limit at the far end of the span (41).
-#[derive(Drop)]
+#[derive(Clone, Copy)]
 pub enum StandOff {
     Is(PairAt),
     Refused(Turned),

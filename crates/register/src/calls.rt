@@ -9,7 +9,7 @@ use chain::enquiry::{Enquiry, Flux, Turned};
 use chain::flux::flux;
 
 // What a call is answered: it is accepted; or the number is refused (51), 32 pools burn (52), or the flux is refused.
-#[derive(Drop)]
+#[derive(Clone, Copy)]
 pub enum Outcome {
     Accepted,
     NumberRefused,
@@ -17,7 +17,7 @@ pub enum Outcome {
     FluxRefused(Turned),
 }
 
-#[derive(Drop)]
+#[derive(Clone, Copy)]
 pub struct Called {
     pub outcome: Outcome,
     pub register: Register,

@@ -6,7 +6,7 @@ ghost use Rattle.register.specs.Private.{first_of};
 use chain::enquiry::Enquiry;
 
 // A place of the register: the number of the pool that burns there, 0 where none does; its enquiry; and low and high of its flux, W/m².
-#[derive(Drop)]
+#[derive(Clone, Copy)]
 pub struct BurningPool {
     pub number: u8,
     pub enquiry: Enquiry,
@@ -14,7 +14,7 @@ pub struct BurningPool {
     pub high: u32,
 }
 
-#[derive(Drop)]
+#[derive(Clone, Copy)]
 pub struct Register {
     pub places: [BurningPool; 32],
 }

@@ -4,7 +4,7 @@ ghost use Rattle.register.specs.Sums.{sums_of};
 
 use super::places::Register;
 
-#[derive(Drop)]
+#[derive(Clone, Copy)]
 pub struct Totals {
     pub burning: u32,
     // W/m²

@@ -1,4 +1,6 @@
 // The replay: sheets in hexadecimal on standard input, one to a line, and the desk's report of each.
+#![tactic(auto)]
+
 ghost use Rattle.std.specs.Prelude.{◌≤◌, ◌<◌};
 ghost use Rattle.replay.specs.Line.{Fine, fine_turn};
 
@@ -8,14 +10,14 @@ use libc::{STDIN_FILENO, STDOUT_FILENO};
 const NONE: u8 = 16;
 
 // The line so far: how many bytes of the sheet are there, and the first digit of the next one.
-#[derive(Drop)]
+#[derive(Clone, Copy)]
 struct Line {
     filled: usize,
     digit: u8,
 }
 
 // After a read: the line so far, or the end of the input.
-#[derive(Drop)]
+#[derive(Clone, Copy)]
 enum Turn {
     More(Line),
     Done,

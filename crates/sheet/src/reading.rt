@@ -9,7 +9,7 @@ use super::layout::{
     COUNT_SIZE, FUEL_INDEX, FUEL_SIZE, MOST_FUELS, MOST_POOLS, MOST_TARGETS, POOL_SIZE, TARGET_SIZE,
 };
 
-#[derive(Drop)]
+#[derive(Clone, Copy)]
 pub struct Counts {
     pub fuels: usize,
     pub pools: usize,
@@ -17,7 +17,7 @@ pub struct Counts {
 }
 
 // Why a sheet is refused: 1 to 5 of document 01, in this order.
-#[derive(Drop)]
+#[derive(Clone, Copy)]
 pub enum Fault {
     CutShort,
     TooMany,
@@ -26,14 +26,14 @@ pub enum Fault {
     NoPool,
 }
 
-#[derive(Drop)]
+#[derive(Clone, Copy)]
 pub enum Reading {
     Accepted(Counts),
     Refused(Fault),
 }
 
 // A section's count, or its first fault.
-#[derive(Drop)]
+#[derive(Clone, Copy)]
 enum Section {
     Holds(usize),
     Refused(Fault),

@@ -15,7 +15,7 @@ use chain::enquiry::{Enquiry, Flux};
 use chain::flux::{flux, number};
 
 // What is shown for a target: the state is 0 or the refusal number, and a refused target has zeros.
-#[derive(Drop)]
+#[derive(Clone, Copy)]
 pub(crate) struct Entry {
     pub(crate) state: u8,
     pub(crate) low: u32,

@@ -1,6 +1,8 @@
 // Runs one operation on pairs many times over a fixed random sequence, and prints the check sum of all its ends; or calls the register many
 // times, or asks it which pools put it over, and prints the check sum of what is answered. The first argument names the operation, the second
 // says how many times. With no arguments each is run 1,000 times.
+#![tactic(auto)]
+
 mod register_calls;
 mod sequence;
 mod which_calls;
@@ -13,7 +15,7 @@ use sequence::{ends, pair_at};
 use std::num::wrapping_add_u64;
 use which_calls::which_sum;
 
-#[derive(Drop)]
+#[derive(Clone, Copy)]
 enum Operation {
     Product,
     Quotient,
