@@ -1,12 +1,6 @@
 -- Operations on answers: a refusal that comes in stays, and pairs go to the operation on pairs. By cases of the answer. Assumes nothing.
 use mathlib.Core.Path.{◌≡◌, refl, sym, ap}
-use mathlib.Core.List.{[], ◌∷◌}
-use mathlib.Core.Logic.{inl, inr}
 use Prim.Native.Nat.{ℕ, suc}
-use native.Mathlib.Omega.{arith}
-use types.Run
-use denote.Enum.Declared
-use Rattle.pairs.specs.contracts.answer.Answer as answer
 use Rattle.pairs.specs.declared.answer.Pair.{Pair}
 use Rattle.pairs.specs.declared.answer.Answer.{Answer}
 use Rattle.pairs.specs.declared.answer.Answer.TheVariants.{Is, Disordered, ZeroDivisor, OutOfSpan, TooLarge}
@@ -15,19 +9,13 @@ use Rattle.pairs.specs.Figures.{Figures, given, refused, figures, after}
 use Rattle.pairs.specs.Answers.{quotient_of, over_of, root_of, on_one, on_two, quotient, over, root}
 use Rattle.pairs.proofs.Agreement.{after_passed}
 
--- What is known of an answer that is no pair: its tag is one of the refusals'.
+-- What is known of an answer that is no pair.
 abbrev pub Refused : Answer → Type 0
-Refused a = Run.OneOf (1 ∷ 2 ∷ 3 ∷ 4 ∷ []) (Declared.tag_of answer.the_type a)
-
-not_a_pair : (p : Pair) → Refused (Is p) → ⊥
-not_a_pair p (inl e) = omega arith
-not_a_pair p (inr (inl e)) = omega arith
-not_a_pair p (inr (inr (inl e))) = omega arith
-not_a_pair p (inr (inr (inr e))) = omega arith
+Refused a = (p : Pair) → a ≡ Is p → ⊥
 
 -- A refusal stays in f, where f lets every refusal through.
 pub stays_in : (f : Figures → Figures) → ((n : ℕ) → f (refused (suc n)) ≡ refused (suc n)) → (a : Answer) → Refused a → figures a ≡ f (figures a)
-stays_in f through (Is p) h = absurd (not_a_pair p h)
+stays_in f through (Is p) h = absurd (h p refl)
 stays_in f through Disordered h = sym (through 60)
 stays_in f through ZeroDivisor h = sym (through 61)
 stays_in f through OutOfSpan h = sym (through 62)

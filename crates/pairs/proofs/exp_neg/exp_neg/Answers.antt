@@ -1,0 +1,71 @@
+-- `exp_neg` meets its contract: 61, then 63, then the cold pair, then the series, of which no step is refused, and eight squares.
+-- The loop holds what is left of the squares. Assumes nothing.
+use mathlib.Core.Path.{◌≡◌, refl, sym, ap, subst, ◌∙◌}
+use Prim.Native.Nat.{ℕ, suc, ◌+◌, ◌*◌, ◌-◌, ◌/◌, ◌^◌, ◌≤◌, ◌<◌}
+use native.Mathlib.Omega.{arith}
+use Rattle.pairs.specs.declared.answer.Pair.{Pair}
+use Rattle.pairs.specs.Rounded as R
+use Rattle.pairs.specs.Rounded.{U, rounded, ends, up}
+use Rattle.pairs.specs.Figures.{Figures, given}
+use Rattle.pairs.specs.Answers as A
+use Rattle.pairs.specs.Answers.{answers}
+use Rattle.pairs.specs.Series.{alternating, exp_term, squared, exp_series}
+use Rattle.pairs.proofs.Turned.{over_turned}
+use Rattle.pairs.proofs.Terms.{Within, exp_given}
+use Rattle.pairs.proofs.Turns.{over_is}
+use Rattle.pairs.proofs.Refusals.{exp_61, exp_63, exp_cold, exp_below_20}
+use Rattle.pairs.proofs.exp_neg.exp_neg.Goals as goal
+
+-- y over 256
+module _ (y : Pair) (high : ℕ) (o : y.low ≤ y.high) (small : y.high < 256 * U) (h : high ≡ up y.high 256) where
+  abbrev z : Pair
+  z = ends (y.low / 256) high
+
+  within : Within U z
+  unfolding up
+  within = omega arith
+
+  over_256 : A.over (given y) 256 ≡ given z
+  unfolding A.over
+  over_256 =
+      let e : z ≡ R.over y 256 = over_is y z 256 refl h in
+      let fits : (R.over y 256).high < 2 ^ 64 = subst (λ (p : Pair). p.high < 2 ^ 64) e (small_enough within.high) in
+      sym ((over_turned y 256).is o refl fits) ∙ ap given (sym e)
+    where
+      small_enough : {n : ℕ} → n ≤ U → n < 2 ^ 64
+      small_enough l = omega arith
+
+  all_squares : (r : Pair) → r ≡ alternating rounded (exp_term rounded z) → squared answers 8 (given r) ≡ exp_series answers (given y)
+  unfolding exp_series
+  all_squares r e = rw over_256 (ap (squared answers 8) (ap given e ∙ sym (exp_given z within)))
+
+-- k squares are made, and one more
+again : (k : ℕ) (x y z : Figures) → k < 8 → y ≡ A.product x x → squared answers (8 - k) x ≡ z → squared answers (8 - (k + 1)) y ≡ z
+unfolding squared
+again k x y z h e s = let d : 8 - k ≡ suc (8 - (k + 1)) = omega arith in rw e (rw d at s)
+
+finished : (k : ℕ) (x z : Figures) → k ≡ 8 → squared answers (8 - k) x ≡ z → x ≡ z
+unfolding squared
+finished k x z e s = rw e at s
+
+pub returns-then-y : goal.returns-then-y
+returns-then-y c = exp_61 _ (omega arith)
+
+pub returns-then-y-ge256000000000000 : goal.returns-then-y-ge256000000000000
+returns-then-y-ge256000000000000 c = exp_63 _ (omega arith) (omega arith)
+
+pub returns-then-y-ge20000000000000 : goal.returns-then-y-ge20000000000000
+returns-then-y-ge20000000000000 c = exp_cold _ (omega arith) (omega arith) (omega arith)
+
+pub alternating_exp-requires : goal.alternating_exp-requires
+alternating_exp-requires c = let y = c.args.y in
+    let w = within y _ (omega arith) (omega arith) c.divided_up.ensures in (w.ordered, w.high)
+
+pub loop-preserved : goal.loop-preserved
+loop-preserved c = (omega arith, again _ _ _ _ (omega arith) c.square-power.ensures c.loop.invariant.1)
+
+pub returns : goal.returns
+returns c = let d = c in
+    finished _ _ _ (omega arith) c.loop.invariant.1
+    ∙ all_squares _ _ (omega arith) (omega arith) d.divided_up.ensures _ d.alternating_exp.ensures
+    ∙ exp_below_20 _ (omega arith) (omega arith) (omega arith)
