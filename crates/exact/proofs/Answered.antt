@@ -9,14 +9,14 @@ use Rattle.chain.specs.declared.enquiry.Flux.{Flux}
 use Rattle.chain.specs.declared.enquiry.Flux.TheVariants.{Is}
 use Rattle.chain.specs.Flux.{Shown, shown, flux_of}
 use Rattle.exact.specs.Fraction.{◌⊑◌, whole}
-use Rattle.exact.specs.Demand.{exact_bracket, allowed_width}
+use Rattle.exact.specs.Demand.{exact_bracket}
 use Rattle.exact.proofs.Demand3.{demand_3}
 
 pub record Answers (n : ℕ) (E : Enquiry) (p : Printed) : Type 0 where
   pub divisors_above_0 : (exact_bracket n E).defined ≡ true
   pub low_below : whole p.low ⊑ (exact_bracket n E).high
   pub high_above : (exact_bracket n E).low ⊑ whole p.high
-  pub narrow : p.high ≤ p.low + allowed_width E
+  pub narrow : p.high ≤ p.low + 20
 
 -- r is what `flux` returns for E: its contract is the premise
 pub answered : (E : Enquiry) (r : Flux) (p : Printed) → shown r ≡ flux_of E → r ≡ Is p → (n : ℕ) → 8 ≤ n → Answers n E p

@@ -1,5 +1,5 @@
 -- Demand 3: what is shown for an accepted enquiry, set against the exact chain at every depth from 8 on.
-use Rattle.std.specs.Prelude.{ℕ, ◌+◌, ◌≤◌, ◌≡◌, Bool, true, false, ◌&&◌, ◌||◌, eqb, nat_abs}
+use Rattle.std.specs.Prelude.{ℕ, ◌+◌, ◌≤◌, ◌≡◌, true}
 use Rattle.chain.specs.declared.enquiry.Enquiry.{Enquiry}
 use Rattle.chain.specs.Chain.{radiant_flux}
 use Rattle.chain.specs.Flux.{flux_of}
@@ -14,21 +14,13 @@ Accepted E = (flux_of E).state ≡ 0
 unfoldable pub exact_bracket : ℕ → Enquiry → Bracket
 exact_bracket n E = times (radiant_flux (exact n) E) 1000
 
--- Request 14: "method 1 with a vertical or horizontal face at height 0", whose magnitude is 0.
-unfoldable pub common_case : Enquiry → Bool
-common_case E = eqb E.method 1 && (eqb E.face 1 || eqb E.face 2) && eqb (nat_abs E.height) 0
-
--- "For those enquiries high less low should be at most 2 W/m², at every transmissivity. .. For the rest, 20 W/m² stands."
-unfoldable pub allowed_width : Enquiry → ℕ
-allowed_width E = elim (common_case E) [ true ↦ 2 | false ↦ 20 ]
-
 -- What is asked of an enquiry at depth n. The low and high shown are "in whole W/m²".
 pub record Holds (n : ℕ) (E : Enquiry) : Type 0 where
   -- "the low end of every divisor is above 0"
   pub divisors_above_0 : (exact_bracket n E).defined ≡ true
   pub low_below : whole (flux_of E).low ⊑ (exact_bracket n E).high
   pub high_above : (exact_bracket n E).low ⊑ whole (flux_of E).high
-  pub narrow : (flux_of E).high ≤ (flux_of E).low + allowed_width E
+  pub narrow : (flux_of E).high ≤ (flux_of E).low + 20
 
 -- "It is a single claim about all accepted enquiries and all these depths."
 abbrev pub Demand3 : Type 0

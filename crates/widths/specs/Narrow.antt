@@ -1,4 +1,4 @@
--- How far apart the low and the high shown for an accepted enquiry are at most, in W/m²: nowhere more than demand 3 allows (crate exact).
+-- How far apart the low and the high shown for an accepted enquiry are at most, in W/m². Demand 3 allows 20.
 use Rattle.std.specs.Prelude.{◌≡◌, true, false, ℕ, ◌+◌, ◌≤◌, eqb, pos}
 use Rattle.chain.specs.declared.enquiry.Enquiry.{Enquiry}
 use Rattle.chain.specs.Flux.{flux_of}
