@@ -110,8 +110,10 @@ module _ (d : ℕ) (p : zero < d) (n : ℕ) where
 arc_of_a_fifth_low : (r : ℕ) → ratio 37 188 (lit< tt) ⊑ (arc (exact (1 + r)) (reciprocal 5)).low
 unfolding arc plus_terms minus_terms arc_term power ratio depth.sum depth.product depth.quotient depth.over depth.constant ◌⊗◌ ◌⊘◌ ◌⊕◌ whole
 arc_of_a_fifth_low r =
-    low_above (1 + r) (arc_term (exact (1 + r)) (reciprocal 5)) _
-    (pairs_rise (1 + r) (λ y. y.low) (λ y. y.high) low_end high_end _ (falls 5 (lit< tt) (1 + r)) _ 1 r
+    let term = arc_term (exact (1 + r)) (reciprocal 5) in
+    let bound = ratio 37 188 (lit< tt) in
+    low_above (1 + r) term bound
+    (pairs_rise (1 + r) (λ y. y.low) (λ y. y.high) low_end high_end term (falls 5 (lit< tt) (1 + r)) bound 1 r
     (record { cross = lit≤ tt }))
 
 first_term :

@@ -1,7 +1,7 @@
 -- The walk over a grid: what it finds, said without it. A place is free, or it is passed over or over the limit; the walk shows the first
 -- that is free, row by row, or 43 where none is. From the laws of the least number that passes. Assumes nothing.
 use mathlib.Core.Path.{◌≡◌, refl, sym, ap, subst, ◌∙◌}
-use mathlib.Core.Bool.{Bool, false, not}
+use mathlib.Core.Bool.{Bool, true, false, not}
 use Prim.Native.Nat.{ℕ, suc, ◌≤◌, ◌<◌}
 use native.Mathlib.Nat.{le_refl, le_of_lt, lt_of_not-le, not-le_of_lt, lt_of_le_of_lt}
 use native.Mathlib.Decide.{dec_le}
@@ -20,6 +20,7 @@ use Rattle.planning.specs.PlaceClaims.{Considered, Unfit}
 
 not-true : (b : Bool) → T (not b) → b ≡ false
 not-true false t = refl
+not-true true t = elim t [ ]
 
 module _ (S : Scenario) (limit : ℕ) (G : Grid) where
   -- ---- one place

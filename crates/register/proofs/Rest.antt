@@ -1,10 +1,10 @@
 -- A loop over the places: what the places from i on add to what was found before them, for the first place of a number and for a sum.
 -- Assumes nothing.
-use mathlib.Core.Path.{◌≡◌, sym, ap, subst, ◌∙◌}
+use mathlib.Core.Path.{◌≡◌, ap, subst, ◌∙◌}
 use mathlib.Core.List.{List}
 use Prim.Native.Nat.{ℕ, suc, ◌+◌, ◌<◌}
 use native.Mathlib.Omega.{arith}
-use lib.ListN.{length, drop, drop_of_length-le, length-map}
+use lib.ListN.{length, drop, drop_of_length-le}
 use lib.Seq.{drop-cons}
 use Rattle.register.specs.declared.places.BurningPool.{BurningPool}
 use Rattle.register.specs.declared.places.Register.{Register}
@@ -16,7 +16,7 @@ use Rattle.register.proofs.ByNumber.{pool_at, first_here, first_later, first_non
 
 -- A register has 32 places, as the machine has it.
 pub as_long : (R : Register) → length (the_type.to R).0 ≡ 32 → length R.places ≡ 32
-as_long R e = sym (length-map R.places _) ∙ e
+as_long R e = e
 
 -- The first place of the number stands at i or after it.
 abbrev pub FirstFrom : ℕ → List BurningPool → ℕ → Type 0
