@@ -4,7 +4,7 @@
 ghost use Rattle.std.specs.Prelude.{length};
 ghost use Rattle.desk.specs.Input.{within, whole};
 
-use libc::{STDERR_FILENO, STDIN_FILENO, STDOUT_FILENO};
+use std::io::{self, Read};
 
 // What one read gave.
 #[derive(Clone, Copy)]
@@ -22,14 +22,12 @@ enum Input {
 }
 
 // One read into a lent slice that is not empty.
-fn read_once(room: &mut [u8]) -> Piece
+fn read_once(stdin: &mut impl Read, room: &mut [u8]) -> Piece
     ensures { within result (length room.old) }
 {
-    let got = libc::read(STDIN_FILENO, room);
-    if got < 0 {
+    let Ok(n) = stdin.read(room) else {
         return Piece::Failed;
-    }
-    let n = io::count(got, room);
+    };
     if n == 0 {
         return Piece::End;
     }
@@ -37,12 +35,12 @@ fn read_once(room: &mut [u8]) -> Piece
 }
 
 // Reads to the end of the input or of the buffer, in pieces of any size.
-fn read_input(buffer: &mut [u8]) -> Input
+fn read_input(stdin: &mut impl Read, buffer: &mut [u8]) -> Input
     ensures { whole result (length buffer.old) }
 {
     let mut filled = 0;
     while filled < buffer.len() {
-        let piece = read_once(&mut buffer[filled..]);
+        let piece = read_once(stdin, &mut buffer[filled..]);
         let Piece::Bytes(n) = piece else {
             if let Piece::Failed = piece {
                 return Input::Failed;
@@ -55,20 +53,18 @@ fn read_input(buffer: &mut [u8]) -> Input
 }
 
 // The report of a sheet, on standard output.
-fn print(bytes: &[u8]) {
+fn print(rt: &impl Print, bytes: &[u8]) -> io::Result<()> {
     let mut text = [0u8; sheet::report::ROOM];
     let n = sheet::report::report(bytes, &mut text);
-    io::write_all(STDOUT_FILENO, &text[..n]);
+    rt.write_all(&text[..n])
 }
 
 // Of every input the first 7,495 bytes are enough: one more than the longest accepted sheet has.
-fn main() {
+fn main(rt: HostRuntime) -> io::Result<()> {
     let mut bytes = [0u8; 7495];
-    let input = read_input(&mut bytes);
+    let input = read_input(&mut rt.stdin(), &mut bytes);
     match input {
-        Input::Whole(n) => print(&bytes[..n]),
-        Input::Failed => {
-            io::write_all(STDERR_FILENO, b"desk: standard input cannot be read\n");
-        }
+        Input::Whole(n) => print(&rt, &bytes[..n]),
+        Input::Failed => eprintln!(rt; "desk: standard input cannot be read"),
     }
 }

@@ -15,7 +15,6 @@ use call::{Reply, called};
 use chain::enquiry::{Factor, Flux, Outside};
 use chain::flux::number;
 use check::same;
-use libc::{STDIN_FILENO, STDOUT_FILENO};
 use line::{Numbers, numbers_in, place_of};
 use pairs::answer::Answer;
 use planning::free_place::FreePlace;
@@ -25,6 +24,7 @@ use register::places::{Register, empty};
 use register::sums::Totals;
 use register_lines::{ReplyAndRegister, light_of, out_of};
 use shape::{has_shape, word_at};
+use std::io::{self, Read};
 use which::which_pools::{FewestPools, which_pools};
 
 // 21 to 23 of document 01.
@@ -36,91 +36,106 @@ fn outside_number(why: Outside) -> u64 {
     }
 }
 
-fn print_after_blank(n: u64) {
-    io::write_all(STDOUT_FILENO, b" ");
-    io::print_decimal(STDOUT_FILENO, n);
+fn print_after_blank(rt: &impl Print, n: u64) -> io::Result<()> {
+    rt.write_all(b" ")?;
+    rt.print(n)
 }
 
-fn print_pair(state: u64, low: u64, high: u64) {
-    io::print_decimal(STDOUT_FILENO, state);
-    print_after_blank(low);
-    print_after_blank(high);
+fn print_pair(rt: &impl Print, state: u64, low: u64, high: u64) -> io::Result<()> {
+    rt.print(state)?;
+    print_after_blank(rt, low)?;
+    print_after_blank(rt, high)
 }
 
 // A number before the two ends.
-fn print_number_and_pair(state: u64, n: u64, low: u64, high: u64) {
-    io::print_decimal(STDOUT_FILENO, state);
-    print_after_blank(n);
-    print_after_blank(low);
-    print_after_blank(high);
+fn print_number_and_pair(
+    rt: &impl Print,
+    state: u64,
+    n: u64,
+    low: u64,
+    high: u64,
+) -> io::Result<()> {
+    rt.print(state)?;
+    print_after_blank(rt, n)?;
+    print_after_blank(rt, low)?;
+    print_after_blank(rt, high)
 }
 
 // 61 to 64 of document 01.
-fn print_operation(a: Answer) {
+fn print_operation(rt: &impl Print, a: Answer) -> io::Result<()> {
     match a {
-        Answer::Is(p) => print_pair(0, p.low, p.high),
-        Answer::Disordered => print_pair(61, 0, 0),
-        Answer::ZeroDivisor => print_pair(62, 0, 0),
-        Answer::OutOfSpan => print_pair(63, 0, 0),
-        Answer::TooLarge => print_pair(64, 0, 0),
+        Answer::Is(p) => print_pair(rt, 0, p.low, p.high),
+        Answer::Disordered => print_pair(rt, 61, 0, 0),
+        Answer::ZeroDivisor => print_pair(rt, 62, 0, 0),
+        Answer::OutOfSpan => print_pair(rt, 63, 0, 0),
+        Answer::TooLarge => print_pair(rt, 64, 0, 0),
     }
 }
 
-fn print_factor(f: Factor) {
+fn print_factor(rt: &impl Print, f: Factor) -> io::Result<()> {
     match f {
-        Factor::Is(p) => print_pair(0, p.low, p.high),
-        Factor::Refused(why) => print_pair(outside_number(why), 0, 0),
+        Factor::Is(p) => print_pair(rt, 0, p.low, p.high),
+        Factor::Refused(why) => print_pair(rt, outside_number(why), 0, 0),
     }
 }
 
-fn print_flux(f: Flux) {
+fn print_flux(rt: &impl Print, f: Flux) -> io::Result<()> {
     match f {
         Flux::Is(p) => {
-            print_pair(0, p.low as u64, p.high as u64);
-            print_after_blank(p.note as u64);
+            print_pair(rt, 0, p.low as u64, p.high as u64)?;
+            print_after_blank(rt, p.note as u64)
         }
         Flux::Refused(why) => {
-            print_pair(number(why) as u64, 0, 0);
-            print_after_blank(0);
+            print_pair(rt, number(why) as u64, 0, 0)?;
+            print_after_blank(rt, 0)
         }
     }
 }
 
 // 41 of document 02, after the flux's own.
-fn print_stand_off(s: StandOff) {
+fn print_stand_off(rt: &impl Print, s: StandOff) -> io::Result<()> {
     match s {
         StandOff::Is(p) => print_number_and_pair(
+            rt,
             0,
             p.decimetres as u64,
             p.low as u64,
             p.high as u64,
         ),
-        StandOff::Refused(why) => print_number_and_pair(number(why) as u64, 0, 0, 0),
-        StandOff::OverLimit => print_number_and_pair(41, 0, 0, 0),
+        StandOff::Refused(why) => print_number_and_pair(rt, number(why) as u64, 0, 0, 0),
+        StandOff::OverLimit => print_number_and_pair(rt, 41, 0, 0, 0),
     }
 }
 
-fn print_place(state: u64, row: u64, place: u64, low: u64, high: u64) {
-    io::print_decimal(STDOUT_FILENO, state);
-    print_after_blank(row);
-    print_after_blank(place);
-    print_after_blank(low);
-    print_after_blank(high);
+fn print_place(
+    rt: &impl Print,
+    state: u64,
+    row: u64,
+    place: u64,
+    low: u64,
+    high: u64,
+) -> io::Result<()> {
+    rt.print(state)?;
+    print_after_blank(rt, row)?;
+    print_after_blank(rt, place)?;
+    print_after_blank(rt, low)?;
+    print_after_blank(rt, high)
 }
 
 // 42 of document 02, the flux's own, then 43.
-fn print_free_place(f: FreePlace) {
+fn print_free_place(rt: &impl Print, f: FreePlace) -> io::Result<()> {
     match f {
         FreePlace::Is(p) => print_place(
+            rt,
             0,
             p.row as u64,
             p.place as u64,
             p.low as u64,
             p.high as u64,
         ),
-        FreePlace::Refused(why) => print_place(number(why) as u64, 0, 0, 0, 0),
-        FreePlace::OutsideLimits => print_place(42, 0, 0, 0, 0),
-        FreePlace::Nowhere => print_place(43, 0, 0, 0, 0),
+        FreePlace::Refused(why) => print_place(rt, number(why) as u64, 0, 0, 0, 0),
+        FreePlace::OutsideLimits => print_place(rt, 42, 0, 0, 0, 0),
+        FreePlace::Nowhere => print_place(rt, 43, 0, 0, 0, 0),
     }
 }
 
@@ -134,82 +149,80 @@ fn outcome_number(o: Outcome) -> u64 {
     }
 }
 
-fn print_totals(o: Outcome, t: Totals) {
-    print_number_and_pair(outcome_number(o), t.burning as u64, t.lows, t.highs);
+fn print_totals(rt: &impl Print, o: Outcome, t: Totals) -> io::Result<()> {
+    print_number_and_pair(rt, outcome_number(o), t.burning as u64, t.lows, t.highs)
 }
 
-fn print_reply(r: Reply) {
+fn print_reply(rt: &impl Print, r: Reply) -> io::Result<()> {
     match r {
-        Reply::Operation(a) => print_operation(a),
-        Reply::Enquiry(f) => print_flux(f),
-        Reply::FactorAlone(f) => print_factor(f),
-        Reply::StandOff(s) => print_stand_off(s),
-        Reply::FreePlace(f) => print_free_place(f),
-        Reply::Register(o, t) => print_totals(o, t),
-        Reply::Unreadable => {
-            io::write_all(STDOUT_FILENO, b"unreadable");
-        }
+        Reply::Operation(a) => print_operation(rt, a)?,
+        Reply::Enquiry(f) => print_flux(rt, f)?,
+        Reply::FactorAlone(f) => print_factor(rt, f)?,
+        Reply::StandOff(s) => print_stand_off(rt, s)?,
+        Reply::FreePlace(f) => print_free_place(rt, f)?,
+        Reply::Register(o, t) => print_totals(rt, o, t)?,
+        Reply::Unreadable => rt.write_all(b"unreadable")?,
     }
-    io::write_all(STDOUT_FILENO, b"\n");
+    rt.write_all(b"\n")
 }
 
 // 55 of document 02.
-fn print_fewest(w: FewestPools) {
-    io::print_decimal(STDOUT_FILENO, w.state as u64);
-    print_after_blank(w.count as u64);
+fn print_fewest(rt: &impl Print, w: FewestPools) -> io::Result<()> {
+    rt.print(w.state as u64)?;
+    print_after_blank(rt, w.count as u64)?;
     let mut i = 0;
     while i < 32 && i < w.count as usize {
-        print_after_blank(w.numbers[i] as u64);
+        print_after_blank(rt, w.numbers[i] as u64)?;
         i += 1;
     }
-    io::write_all(STDOUT_FILENO, b"\n");
+    rt.write_all(b"\n")
 }
 
 // A line `which LIMIT`. Its answer is no reply, since an enum must not hold an array.
-fn answer_which(r: Register, ns: Numbers) {
+fn answer_which(rt: &impl Print, r: Register, ns: Numbers) -> io::Result<()> {
     if !has_shape(ns, b"w") {
-        print_reply(Reply::Unreadable);
-        return;
+        return print_reply(rt, Reply::Unreadable);
     }
-    print_fewest(which_pools(r, word_at(ns, 0)));
+    print_fewest(rt, which_pools(r, word_at(ns, 0)))
 }
 
-fn print_and_keep(answered: ReplyAndRegister) -> Register {
+fn print_and_keep(rt: &impl Print, answered: ReplyAndRegister) -> io::Result<Register> {
     let reply = answered.reply;
-    print_reply(reply);
-    answered.register
+    print_reply(rt, reply)?;
+    Ok(answered.register)
 }
 
 // Answers a line, and gives back the register after it.
-fn answer_line(line: &[u8], r: Register) -> Register {
+fn answer_line(rt: &impl Print, line: &[u8], r: Register) -> io::Result<Register> {
     let end = place_of(line, b' ', 0);
     let ns = numbers_in(&line[end..]);
     if same(&line[0..end], b"light") {
-        return print_and_keep(light_of(r, ns));
+        return print_and_keep(rt, light_of(r, ns));
     }
     if same(&line[0..end], b"out") {
-        return print_and_keep(out_of(r, ns));
+        return print_and_keep(rt, out_of(r, ns));
     }
     if same(&line[0..end], b"which") {
-        answer_which(r, ns);
-        return r;
+        answer_which(rt, r, ns)?;
+        return Ok(r);
     }
-    print_reply(called(&line[0..end], ns));
-    r
+    print_reply(rt, called(&line[0..end], ns))?;
+    Ok(r)
 }
 
-fn answer_lines(text: &[u8]) {
+fn answer_lines(rt: &impl Print, text: &[u8]) -> io::Result<()> {
     let mut register = empty();
     let mut at = 0;
     while at < text.len() {
         let end = place_of(text, b'\n', at);
-        register = answer_line(&text[at..end], register);
+        register = answer_line(rt, &text[at..end], register)?;
         at = end + 1;
     }
+    Ok(())
 }
 
-fn main() {
-    let mut text = [0u8; 524_288];
-    let n = io::read_full(STDIN_FILENO, &mut text);
-    answer_lines(&text[..n]);
+fn main(rt: HostRuntime) -> io::Result<()> {
+    let mut text = Vec::new(rt.alloc());
+    rt.stdin().take(524_288).read_to_end(&mut text)?;
+    answer_lines(&rt, &text)
 }

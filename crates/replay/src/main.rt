@@ -1,10 +1,10 @@
 // The replay: sheets in hexadecimal on standard input, one to a line, and the desk's report of each.
 #![tactic(auto)]
 
-ghost use Rattle.std.specs.Prelude.{◌≤◌, ◌<◌};
+ghost use Rattle.std.specs.Prelude.{◌≤◌, ◌<◌, IfOk};
 ghost use Rattle.replay.specs.Line.{Fine, fine_turn};
 
-use libc::{STDIN_FILENO, STDOUT_FILENO};
+use std::io::{self, Read};
 
 // No digit yet of the next byte.
 const NONE: u8 = 16;
@@ -24,10 +24,10 @@ enum Turn {
 }
 
 // The report of a sheet, on standard output.
-fn print(bytes: &[u8]) {
+fn print(rt: &impl Print, bytes: &[u8]) -> io::Result<()> {
     let mut text = [0u8; sheet::report::ROOM];
     let n = sheet::report::report(bytes, &mut text);
-    io::write_all(STDOUT_FILENO, &text[..n]);
+    rt.write_all(&text[..n])
 }
 
 // The value of a hexadecimal digit, or NONE.
@@ -66,72 +66,68 @@ fn with_digit(line: Line, d: u8, sheet: &mut [u8]) -> Line
 }
 
 // One more byte of the input: a line feed ends a sheet, and what is no digit is passed over.
-fn with_byte(line: Line, b: u8, sheet: &mut [u8]) -> Line
+fn with_byte(rt: &impl Print, line: Line, b: u8, sheet: &mut [u8]) -> io::Result<Line>
     requires { Fine line sheet.old }
-    ensures { Fine result sheet.new }
+    ensures { IfOk result (λ l. Fine l sheet.new) }
 {
     if b == b'\n' {
         let filled = line.filled;
-        print(&sheet[..filled]);
-        return Line {
+        print(rt, &sheet[..filled])?;
+        return Ok(Line {
             filled: 0,
             digit: NONE,
-        };
+        });
     }
     let d = value(b);
     if d == NONE {
-        return line;
+        return Ok(line);
     }
-    with_digit(line, d, sheet)
+    Ok(with_digit(line, d, sheet))
 }
 
 // The bytes of one read, in their order.
-fn with_piece(start: Line, piece: &[u8], sheet: &mut [u8]) -> Line
+fn with_piece(rt: &impl Print, start: Line, piece: &[u8], sheet: &mut [u8]) -> io::Result<Line>
     requires { Fine start sheet.old }
-    ensures { Fine result sheet.new }
+    ensures { IfOk result (λ l. Fine l sheet.new) }
 {
     let mut line = start;
-    let mut i = 0;
-    while i < piece.len() {
-        line = with_byte(line, piece[i], sheet);
-        i += 1;
+    for b in piece {
+        line = with_byte(rt, line, *b, sheet)?;
     }
-    line
+    Ok(line)
 }
 
 // One read and its bytes, or the end of the input.
-fn read_on(line: Line, sheet: &mut [u8]) -> Turn
+fn read_on(rt: &impl Print, stdin: &mut impl Read, line: Line, sheet: &mut [u8]) -> io::Result<Turn>
     requires { Fine line sheet.old }
-    ensures { fine_turn result sheet.new }
+    ensures { IfOk result (λ t. fine_turn t sheet.new) }
 {
-    let mut piece = io::buffer();
-    let got = libc::read(STDIN_FILENO, &mut piece);
-    let n = io::count(got, &piece);
+    let mut piece = [0u8; 4096];
+    let n = stdin.read(&mut piece)?;
     if n == 0 {
-        return Turn::Done;
+        return Ok(Turn::Done);
     }
-    Turn::More(with_piece(line, &piece[..n], sheet))
+    Ok(Turn::More(with_piece(rt, line, &piece[..n], sheet)?))
 }
 
-// A proved loop has to end, and nothing says that the input does. So the loop counts its turns down, from a number that
+// A proved loop has to end, and nothing says that the input does. So the loop counts its turns, up to a number that
 // no run uses up.
-fn replay_all(sheet: &mut [u8]) {
+fn replay_all(rt: &impl Print, stdin: &mut impl Read, sheet: &mut [u8]) -> io::Result<()> {
     let mut line = Line {
         filled: 0,
         digit: NONE,
     };
-    let mut turns = u64::MAX;
-    while turns > 0 {
-        let found = read_on(line, sheet);
+    for _ in 0..u64::MAX {
+        let found = read_on(rt, stdin, line, sheet)?;
         let Turn::More(next) = found else {
-            return;
+            return Ok(());
         };
         line = next;
-        turns -= 1;
     }
+    Ok(())
 }
 
-fn main() {
+fn main(rt: HostRuntime) -> io::Result<()> {
     let mut sheet = [0u8; 7495];
-    replay_all(&mut sheet);
+    replay_all(&rt, &mut rt.stdin(), &mut sheet)
 }

@@ -8,10 +8,11 @@ mod sequence;
 mod which_calls;
 
 use check::same;
-use libc::STDOUT_FILENO;
 use pairs::answer::{Answer, Pair};
 use register_calls::calls_sum;
 use sequence::{ends, pair_at};
+use std::env::Env;
+use std::io;
 use std::num::wrapping_add_u64;
 use which_calls::which_sum;
 
@@ -125,59 +126,55 @@ fn number_in(s: &[u8]) -> u64 {
     n
 }
 
-fn print_sum(o: Operation, count: u64) {
-    io::print_decimal(STDOUT_FILENO, check_sum(o, count));
-    io::write_all(STDOUT_FILENO, b"\n");
+fn print_sum(rt: &impl Print, o: Operation, count: u64) -> io::Result<()> {
+    rt.print(check_sum(o, count))?;
+    rt.write_all(b"\n")
 }
 
-fn print_calls(count: u64, after_each: bool) {
-    io::print_decimal(STDOUT_FILENO, calls_sum(count, after_each));
-    io::write_all(STDOUT_FILENO, b"\n");
+fn print_calls(rt: &impl Print, count: u64, after_each: bool) -> io::Result<()> {
+    rt.print(calls_sum(count, after_each))?;
+    rt.write_all(b"\n")
 }
 
-fn print_which(count: u64) {
-    io::print_decimal(STDOUT_FILENO, which_sum(count));
-    io::write_all(STDOUT_FILENO, b"\n");
+fn print_which(rt: &impl Print, count: u64) -> io::Result<()> {
+    rt.print(which_sum(count))?;
+    rt.write_all(b"\n")
 }
 
-fn print_each() {
-    print_sum(Operation::Product, 1000);
-    print_sum(Operation::Quotient, 1000);
-    print_sum(Operation::Root, 1000);
-    print_sum(Operation::FifthRoot, 1000);
-    print_sum(Operation::Atan, 1000);
-    print_sum(Operation::ExpNeg, 1000);
-    print_sum(Operation::ColdExpNeg, 1000);
-    print_calls(1000, false);
-    print_calls(1000, true);
-    print_which(1000);
+fn print_each(rt: &impl Print) -> io::Result<()> {
+    print_sum(rt, Operation::Product, 1000)?;
+    print_sum(rt, Operation::Quotient, 1000)?;
+    print_sum(rt, Operation::Root, 1000)?;
+    print_sum(rt, Operation::FifthRoot, 1000)?;
+    print_sum(rt, Operation::Atan, 1000)?;
+    print_sum(rt, Operation::ExpNeg, 1000)?;
+    print_sum(rt, Operation::ColdExpNeg, 1000)?;
+    print_calls(rt, 1000, false)?;
+    print_calls(rt, 1000, true)?;
+    print_which(rt, 1000)
 }
 
 // How many times: the second argument.
-fn count_asked() -> u64 {
-    let mut digits = io::buffer();
-    let n = os::arg(2, &mut digits);
+fn count_asked(rt: &impl Env) -> u64 {
+    let mut digits = [0u8; 4096];
+    let n = rt.arg(2, &mut digits).unwrap_or(0);
     number_in(&digits[..n])
 }
 
-fn main() {
-    let mut name = io::buffer();
-    let n = os::arg(1, &mut name);
+fn main(rt: HostRuntime) -> io::Result<()> {
+    let mut name = [0u8; 4096];
+    let n = rt.arg(1, &mut name).unwrap_or(0);
     if n == 0 {
-        print_each();
-        return;
+        return print_each(&rt);
     }
     if same(&name[..n], b"calls") {
-        print_calls(count_asked(), false);
-        return;
+        return print_calls(&rt, count_asked(&rt), false);
     }
     if same(&name[..n], b"calls_and_sums") {
-        print_calls(count_asked(), true);
-        return;
+        return print_calls(&rt, count_asked(&rt), true);
     }
     if same(&name[..n], b"which") {
-        print_which(count_asked());
-        return;
+        return print_which(&rt, count_asked(&rt));
     }
-    print_sum(named(&name[..n]), count_asked());
+    print_sum(&rt, named(&name[..n]), count_asked(&rt))
 }
