@@ -19,7 +19,7 @@ MADE = re.compile(r"^(Need|invariant|decreases|the-invariant|the-measure)-")
 
 def texts(root, endings):
     for folder, dirs, files in os.walk(os.path.join(root, "crates")):
-        dirs[:] = sorted(d for d in dirs if d not in ("out", "target"))
+        dirs[:] = sorted(d for d in dirs if d != "out")
         for f in sorted(files):
             if f.endswith(endings):
                 yield os.path.join(folder, f)

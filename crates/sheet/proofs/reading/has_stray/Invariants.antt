@@ -1,0 +1,15 @@
+-- `has_stray` meets its contract: no index passed so far is `limit` or more.
+use mathlib.Core.Path.{◌≡◌, sym, ap, ◌∙◌}
+use mathlib.Core.Bool.{false}
+use Prim.Native.Nat.{ℕ, ◌+◌, ◌*◌, ◌-◌, ◌≤◌}
+use native.Mathlib.Omega.{arith}
+use Rattle.sheet.specs.Bytes.{two}
+use Rattle.sheet.specs.Private.{stray}
+use Rattle.sheet.proofs.Sections.{stray_none, stray_more, stray_found}
+use Rattle.sheet.proofs.reading.has_stray.Given as goal
+
+abbrev pub invariant-loop-i : goal.invariant-loop-i
+invariant-loop-i l = (l.i ≤ l.count) × (l.at ≡ l.first + l.size * l.i) × (stray l.sheet l.first l.size l.i l.limit ≡ false)
+
+abbrev pub decreases-loop-i : goal.decreases-loop-i
+decreases-loop-i l = l.count - l.i
