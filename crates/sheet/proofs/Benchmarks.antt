@@ -1,7 +1,7 @@
 -- The benchmarks of document 01, A to J, as one theorem. Roots are named by the laws of their searches; the rest computes.
 -- Assumes nothing.
 use mathlib.Core.Path.{◌≡◌, refl}
-use Prim.Native.Nat.{◌*◌, ◌≤◌, ◌<◌}
+use Prim.Native.Nat.{◌*◌}
 use lib.Dec.{lit<, lit≤}
 use Rattle.pairs.specs.Rounded as rounded
 use Rattle.pairs.specs.Rounded.{U, ends, root_down, root_up, fifth_root_down, fifth_root_up, fifth_power_up, fifth_power_down, up, down}

@@ -1,7 +1,7 @@
 -- What the bytes of a fill depend on: a target's ten on its own entry, its pool and that pool's fuel, and no other byte of the sheet;
 -- later bytes, and all bytes with a refusal, on nothing but what stood there. By cutting the lists. Assumes nothing.
 use mathlib.Core.Path.{◌≡◌, refl, sym, ap, ◌∙◌}
-use mathlib.Core.List.{List, [], ◌++◌, append_assoc}
+use mathlib.Core.List.{List, ◌++◌, append_assoc}
 use Prim.Native.Nat.{ℕ, zero, suc, ◌+◌, ◌*◌, ◌≤◌, ◌<◌}
 use native.Mathlib.Nat.{add_assoc, add-zero}
 use native.Mathlib.Decide.{dec_lt}

@@ -14,7 +14,6 @@ use Rattle.pairs.specs.Figures.{refuse}
 use Rattle.pairs.proofs.Tests.{past_test}
 use Rattle.sheet.specs.declared.reading.Fault.{Fault}
 use Rattle.sheet.specs.declared.reading.Fault.TheVariants.{CutShort, TooMany}
-use Rattle.sheet.specs.declared.reading.Reading.TheVariants.{Refused}
 use Rattle.sheet.specs.declared.reading.Section.{Section}
 use Rattle.sheet.specs.declared.reading.Section.TheVariants as section
 use Rattle.sheet.specs.Layout.{count_size, fuel_size, most_fuels, pool_size, most_pools, target_size, most_targets, fuel_index_offset, pools_start, targets_start, sheet_end}

@@ -3,7 +3,6 @@
 use mathlib.Core.Path.{ap, ◌∙◌}
 use mir.Syntax.{w32}
 use mir.ValLaws.{to_z-of_z}
-use borrow.Author.Rules.{rules}
 use Rattle.sheet.specs.Bytes.{signed, four_signed}
 use Rattle.sheet.proofs.bytes.four_signed.Goals as goal
 

@@ -2,9 +2,6 @@
 -- Assumes nothing.
 use Rattle.sheet.specs.Bytes.{four_bytes}
 use Rattle.sheet.proofs.Pasting.{four_stores}
-use native.Mathlib.Omega.{arith}
-use lib.ListN.{length-set}
-use borrow.Author.Rules.{rules}
 use Rattle.sheet.proofs.bytes.put_four.Goals as goal
 
 pub returns : goal.returns

@@ -7,7 +7,6 @@ use Rattle.sheet.specs.Reading.{outcome}
 use Rattle.sheet.specs.Lent.{Lent}
 use Rattle.sheet.proofs.Sections.{sound}
 use Rattle.sheet.proofs.Filling.{fill_refused, fill_accepted}
-use borrow.Author.Rules.{rules}
 use Rattle.sheet.proofs.fill.fill.Goals as goal
 
 pub fill_accepted-requires : goal.fill_accepted-requires

@@ -7,7 +7,6 @@ use Rattle.sheet.specs.Layout.{answer_size}
 use Rattle.sheet.specs.Fill.{answers}
 use Rattle.sheet.proofs.Lending.{no_room}
 use Rattle.sheet.proofs.Filling.{written}
-use borrow.Author.Rules.{rules}
 use Rattle.sheet.proofs.fill.fill_accepted.Goals as goal
 
 pub returns-then-out-targets : goal.returns-then-out-targets

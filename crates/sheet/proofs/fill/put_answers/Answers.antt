@@ -1,9 +1,7 @@
 -- `put_answers` meets its contract: the answers of the targets passed stand at the front.
 -- Assumes nothing.
-use mathlib.Core.Path.{◌≡◌, refl, ap, ◌∙◌}
-use Prim.Native.Nat.{ℕ, ◌-◌, ◌≤◌}
+use mathlib.Core.Path.{refl}
 use native.Mathlib.Omega.{arith}
-use lib.ListN.{length}
 use Rattle.sheet.specs.Fill.{answers}
 use Rattle.sheet.specs.Private.{pasted}
 use Rattle.sheet.proofs.Filling.{one_more}

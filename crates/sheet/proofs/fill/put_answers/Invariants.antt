@@ -1,11 +1,9 @@
 -- `put_answers` meets its contract: the answers of the targets passed stand at the front.
-use mathlib.Core.Path.{◌≡◌, refl, ap, ◌∙◌}
-use Prim.Native.Nat.{ℕ, ◌-◌, ◌≤◌}
-use native.Mathlib.Omega.{arith}
+use mathlib.Core.Path.{◌≡◌}
+use Prim.Native.Nat.{◌-◌, ◌≤◌}
 use lib.ListN.{length}
 use Rattle.sheet.specs.Fill.{answers}
 use Rattle.sheet.specs.Private.{pasted}
-use Rattle.sheet.proofs.Filling.{one_more}
 use Rattle.sheet.proofs.fill.put_answers.Given as goal
 
 abbrev pub invariant-loop-i : goal.invariant-loop-i

@@ -1,10 +1,7 @@
 -- `put_entry` meets its contract: four writes in a row are the ten bytes.
 -- Assumes nothing.
-use native.Mathlib.Omega.{arith}
-use lib.ListN.{length-set}
 use Rattle.sheet.specs.Private.{shown_by}
 use Rattle.sheet.proofs.Filling.{ten_written}
-use borrow.Author.Rules.{rules}
 use Rattle.sheet.proofs.fill.put_entry.Goals as goal
 
 pub returns : goal.returns

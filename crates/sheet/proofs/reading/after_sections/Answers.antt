@@ -2,7 +2,6 @@
 -- Assumes nothing.
 use mathlib.Core.Path.{sym, ◌∙◌}
 use Rattle.sheet.proofs.Sections.{left_over, fuel_missing, pool_missing, accepted}
-use borrow.Author.Rules.{rules}
 use Rattle.sheet.proofs.reading.after_sections.Goals as goal
 
 pub returns-then-targets_start-targets : goal.returns-then-targets_start-targets

@@ -4,7 +4,6 @@ use mathlib.Core.Path.{sym, ◌∙◌}
 use Rattle.sheet.specs.Layout.{pools_start, pool_size, most_pools}
 use Rattle.sheet.specs.Reading.{from_targets}
 use Rattle.sheet.proofs.Sections.{holding, section_refused, section_held, pools_counted, pools_section}
-use borrow.Author.Rules.{rules}
 use Rattle.sheet.proofs.reading.from_pools.Goals as goal
 
 pub from_targets-requires : goal.from_targets-requires

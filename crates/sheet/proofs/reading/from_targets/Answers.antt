@@ -4,7 +4,6 @@ use mathlib.Core.Path.{sym, ◌∙◌}
 use Rattle.sheet.specs.Layout.{targets_start, target_size, most_targets}
 use Rattle.sheet.specs.Reading.{after_sections}
 use Rattle.sheet.proofs.Sections.{holding, section_refused, section_held, targets_counted, targets_section}
-use borrow.Author.Rules.{rules}
 use Rattle.sheet.proofs.reading.from_targets.Goals as goal
 
 pub after_sections-requires : goal.after_sections-requires

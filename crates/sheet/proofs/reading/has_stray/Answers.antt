@@ -1,11 +1,8 @@
 -- `has_stray` meets its contract: no index passed so far is `limit` or more.
 -- Assumes nothing.
-use mathlib.Core.Path.{◌≡◌, sym, ap, ◌∙◌}
-use mathlib.Core.Bool.{false}
-use Prim.Native.Nat.{ℕ, ◌+◌, ◌*◌, ◌-◌, ◌≤◌}
+use mathlib.Core.Path.{sym, ap}
 use native.Mathlib.Omega.{arith}
 use Rattle.sheet.specs.Bytes.{two}
-use Rattle.sheet.specs.Private.{stray}
 use Rattle.sheet.proofs.Sections.{stray_none, stray_more, stray_found}
 use Rattle.sheet.proofs.reading.has_stray.Goals as goal
 

@@ -1,11 +1,8 @@
 -- `has_stray` meets its contract: no index passed so far is `limit` or more.
-use mathlib.Core.Path.{◌≡◌, sym, ap, ◌∙◌}
+use mathlib.Core.Path.{◌≡◌}
 use mathlib.Core.Bool.{false}
-use Prim.Native.Nat.{ℕ, ◌+◌, ◌*◌, ◌-◌, ◌≤◌}
-use native.Mathlib.Omega.{arith}
-use Rattle.sheet.specs.Bytes.{two}
+use Prim.Native.Nat.{◌+◌, ◌*◌, ◌-◌, ◌≤◌}
 use Rattle.sheet.specs.Private.{stray}
-use Rattle.sheet.proofs.Sections.{stray_none, stray_more, stray_found}
 use Rattle.sheet.proofs.reading.has_stray.Given as goal
 
 abbrev pub invariant-loop-i : goal.invariant-loop-i

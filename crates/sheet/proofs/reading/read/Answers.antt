@@ -4,7 +4,6 @@ use mathlib.Core.Path.{sym, ◌∙◌}
 use Rattle.sheet.specs.Layout.{fuel_size, most_fuels}
 use Rattle.sheet.specs.Reading.{from_pools}
 use Rattle.sheet.proofs.Sections.{holding, section_refused, section_held, fuels_counted, first_section}
-use borrow.Author.Rules.{rules}
 use Rattle.sheet.proofs.reading.read.Goals as goal
 
 pub from_pools-requires : goal.from_pools-requires

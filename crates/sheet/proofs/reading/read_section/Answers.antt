@@ -1,11 +1,7 @@
 -- `read_section` meets its contract: the tests that led to each answer are those of its definition, in their order.
 -- Assumes nothing.
-use Prim.Native.Nat.{◌≤◌}
-use native.Mathlib.Nat.{mul-le-mul}
-use native.Mathlib.Omega.{arith}
 use borrow.Author.Tests.{lt-ltb, le-ltb}
 use Rattle.sheet.specs.Private.{section_of}
-use borrow.Author.Rules.{rules}
 use Rattle.sheet.proofs.reading.read_section.Goals as goal
 
 pub returns-then-sheet-start : goal.returns-then-sheet-start

@@ -4,8 +4,7 @@ use native.Mathlib.Omega.{arith}
 use Rattle.sheet.specs.Report.{space}
 use Rattle.sheet.specs.Private.{shown_by}
 use Rattle.sheet.proofs.Digits.{short_field}
-use Rattle.sheet.proofs.Printing.{Short, short, line_put}
-use borrow.Author.Rules.{rules}
+use Rattle.sheet.proofs.Printing.{short, line_put}
 use Rattle.sheet.proofs.report.put_line.Goals as goal
 
 pub put_field-after_index-requires : goal.put_field-after_index-requires

@@ -1,11 +1,7 @@
 -- `put_lines` meets its contract: the lines of the targets passed stand one after the other.
 -- Assumes nothing.
-use mathlib.Core.Path.{◌≡◌, refl}
-use Prim.Native.Nat.{◌+◌, ◌*◌, ◌-◌, ◌≤◌}
+use mathlib.Core.Path.{refl}
 use native.Mathlib.Omega.{arith}
-use lib.ListN.{length}
-use Rattle.sheet.specs.Report.{lines, line_room}
-use Rattle.sheet.specs.Private.{Put}
 use Rattle.sheet.proofs.Printing.{no_lines, one_line}
 use Rattle.sheet.proofs.report.put_lines.Goals as goal
 
@@ -14,8 +10,7 @@ loop-i-init c = (omega arith, refl, no_lines c.args.sheet.now c.args.out.now c.a
 
 pub loop-i-preserved : goal.loop-i-preserved
 loop-i-preserved c =
-    let l = c.loop-i in
-    (
+    let l = c.loop-i in (
       omega arith,
       omega (arith, c.put_line-at.auto.out),
       one_line c.args.sheet.now c.args.out.now _ _ c.args.from _ _ l.i _ l.invariant.2 c.put_line-at.ensures.0 c.target.ensures (omega (arith, c.requires.1, c.put_line-at.ensures.1)),

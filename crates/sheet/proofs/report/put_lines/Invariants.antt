@@ -1,11 +1,9 @@
 -- `put_lines` meets its contract: the lines of the targets passed stand one after the other.
-use mathlib.Core.Path.{◌≡◌, refl}
+use mathlib.Core.Path.{◌≡◌}
 use Prim.Native.Nat.{◌+◌, ◌*◌, ◌-◌, ◌≤◌}
-use native.Mathlib.Omega.{arith}
 use lib.ListN.{length}
 use Rattle.sheet.specs.Report.{lines, line_room}
 use Rattle.sheet.specs.Private.{Put}
-use Rattle.sheet.proofs.Printing.{no_lines, one_line}
 use Rattle.sheet.proofs.report.put_lines.Given as goal
 
 abbrev pub invariant-loop-i : goal.invariant-loop-i

@@ -4,7 +4,6 @@ use native.Mathlib.Omega.{arith}
 use Rattle.sheet.specs.Report.{line_feed}
 use Rattle.sheet.proofs.Digits.{short_field}
 use Rattle.sheet.proofs.Printing.{refusal_put}
-use borrow.Author.Rules.{rules}
 use Rattle.sheet.proofs.report.put_refusal.Goals as goal
 
 pub put_field-requires : goal.put_field-requires

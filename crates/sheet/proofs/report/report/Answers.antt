@@ -7,7 +7,6 @@ use Rattle.sheet.specs.Reading.{outcome}
 use Rattle.sheet.specs.Report.{Reported}
 use Rattle.sheet.proofs.Sections.{sound}
 use Rattle.sheet.proofs.Printing.{report_fits, too_short, printed_whole, text_refused, text_accepted}
-use borrow.Author.Rules.{rules}
 use Rattle.sheet.proofs.report.report.Goals as goal
 
 pub returns-then-out-lt-ROOM : goal.returns-then-out-lt-ROOM
@@ -33,4 +32,4 @@ returns-in-Accepted c =
     let e = printed_whole c.args.sheet.now c.args.out.now _ _ _ c.if-out-lt-ROOM.false c.put_figures.ensures (text_accepted c.args.sheet.now c.in-Accepted.counts k) in
     let count = ap (λ (f : Reported). f.count) e in
     let bytes = ap (λ (f : Reported). f.bytes) e in
-    (count, bytes, omega (arith, count, report_fits c.args.sheet.now c.args.out.now _ bytes c.put_figures.auto.out.0))
+    (count, bytes, omega (arith, count, report_fits c.args.sheet.now c.args.out.now _ bytes c.put_figures.auto.out))

@@ -4,7 +4,6 @@ use mathlib.Core.Path.{◌∙◌}
 use mir.Syntax.{w32}
 use mir.ValLaws.{to_z-of_z}
 use Rattle.sheet.specs.Target.{enquiry_at}
-use borrow.Author.Rules.{rules}
 use Rattle.sheet.proofs.target.enquiry.Goals as goal
 
 pub returns : goal.returns

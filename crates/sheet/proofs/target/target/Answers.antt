@@ -5,7 +5,6 @@ use Prim.Native.Nat.{◌<◌}
 use native.Mathlib.Omega.{arith}
 use Rattle.chain.specs.Flux.{flux_of}
 use Rattle.sheet.proofs.Places.{pool_found, fuel_found, target_shown}
-use borrow.Author.Rules.{rules}
 use Rattle.sheet.proofs.target.target.Goals as goal
 
 pub two-requires-2 : goal.two-requires-2

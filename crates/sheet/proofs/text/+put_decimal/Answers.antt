@@ -1,10 +1,10 @@
 -- `put_decimal` meets its contract: the digits before the last one, then the last.
 use mathlib.Core.Path.{ap}
 use native.Mathlib.Omega.{arith}
-use lib.ListN.{length, length-set}
+use lib.ListN.{length}
 use Rattle.sheet.proofs.Digits.{one_digit, last_digit, digits_more}
 use Rattle.sheet.proofs.Pasting.{stored, then}
-use Prim.Native.Nat.{ℕ, ◌+◌, ◌%◌, ◌≤◌, ◌<◌}
+use Prim.Native.Nat.{◌+◌, ◌%◌, ◌≤◌}
 use Rattle.sheet.proofs.text.+put_decimal.Goals as goal
 
 pub bounds-out-at : goal.bounds-out-at

@@ -4,7 +4,6 @@ use native.Mathlib.Omega.{arith}
 use Rattle.sheet.specs.Report.{field}
 use Rattle.sheet.proofs.Digits.{field_length}
 use Rattle.sheet.proofs.Pasting.{stored, then}
-use borrow.Author.Rules.{rules}
 use Rattle.sheet.proofs.text.put_field.Goals as goal
 
 pub put_decimal-last-requires : goal.put_decimal-last-requires

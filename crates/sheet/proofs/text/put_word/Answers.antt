@@ -1,12 +1,10 @@
 -- `put_word` meets its contract: the bytes passed so far stand in their places.
 -- Assumes nothing.
-use mathlib.Core.Path.{◌≡◌, refl, ap, ◌∙◌}
+use mathlib.Core.Path.{refl, ap, ◌∙◌}
 use mathlib.Core.List.{List}
-use Prim.Native.Nat.{ℕ, ◌+◌, ◌-◌, ◌≤◌}
+use Prim.Native.Nat.{ℕ, ◌+◌}
 use native.Mathlib.Omega.{arith}
-use lib.ListN.{length, take, set, get_or, length-set}
-use lib.Seq.{take-length}
-use Rattle.sheet.specs.Private.{pasted}
+use lib.ListN.{set, get_or, length-set}
 use Rattle.sheet.proofs.Pasting.{nothing, letter}
 use Rattle.sheet.proofs.text.put_word.Goals as goal
 

@@ -1,0 +1,10 @@
+-- `four` meets its contract: two numbers of two bytes.
+-- Assumes nothing.
+use native.Mathlib.Nat.{add_assoc}
+use Rattle.sheet.specs.Bytes.{two, four}
+use borrow.Author.Rules.{rules}
+use Rattle.drawing.proofs.answers.four.Goals as goal
+
+pub returns : goal.returns
+unfolding two four
+returns c = cc (add_assoc c.args.at 2 1)
