@@ -17,7 +17,7 @@ use Rattle.sheet.proofs.Lending.{returned_0, kept}
 use Rattle.drawing.specs.declared.figures.Ends.{Ends}
 use Rattle.drawing.specs.declared.figures.Ends.TheVariants.{Answered, Refused}
 use Rattle.drawing.specs.declared.figures.Group.{Group}
-use Rattle.drawing.specs.Floats.{float, middle, plain}
+use Rattle.drawing.specs.Floats.{float, plain}
 use Rattle.drawing.specs.Figures.{ends, ends_of, three_zeros, group_of}
 use Rattle.drawing.specs.Groups.{group_at, listed, groups_of}
 use Rattle.drawing.specs.Lent.{group_size, laid_out, fill_groups_of}

@@ -10,7 +10,7 @@ use lib.IntN.{ℤ, pos, negsuc, nat_abs, ◌+ℤ◌}
 use lib.Signed.{non_neg}
 use borrow.Author.Tests.{lt-ltb, le-ltb}
 use Rattle.planning.specs.declared.grid.Grid.{Grid}
-use Rattle.planning.specs.Grid.{east_of, north_of, squares}
+use Rattle.planning.specs.Grid.{east_of, north_of}
 use Rattle.planning.specs.PlaceClaims.{InLimits}
 
 pub from_above : (z : ℤ) (k : ℕ) → non_neg z ≡ true → nat_abs z + k ≡ nat_abs (z +ℤ pos k)

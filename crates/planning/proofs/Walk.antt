@@ -6,7 +6,7 @@ use Prim.Native.Nat.{ℕ, suc, ◌≤◌, ◌<◌}
 use native.Mathlib.Nat.{le_refl, le_of_lt, lt_of_not-le, not-le_of_lt, lt_of_le_of_lt}
 use native.Mathlib.Decide.{dec_le}
 use native.Mathlib.Omega.{arith}
-use lib.Dec.{T, leb, ltb, leb→le, le→leb, ltb→lt, lt→ltb}
+use lib.Dec.{T, ltb, leb→le, le→leb, ltb→lt, lt→ltb}
 use lib.Ieee.Fits.{and_i, and_l, and_r}
 use borrow.Author.Tests.{le-leb, lt-leb}
 use Rattle.pairs.proofs.Search.{least_reached, least_bound, least_first, least_none}

@@ -5,7 +5,6 @@ use Rattle.sheet.specs.Bytes.{one}
 use Rattle.drawing.specs.Floats.{float}
 use Rattle.drawing.specs.Private.{shown_in}
 use Rattle.drawing.proofs.Ends.{answered, refused}
-use borrow.Author.Rules.{rules}
 use Rattle.drawing.proofs.answers.ends_in.Goals as goal
 
 pub returns-then-state-ne0 : goal.returns-then-state-ne0

@@ -2,7 +2,6 @@
 -- Assumes nothing.
 use native.Mathlib.Nat.{add_assoc}
 use Rattle.sheet.specs.Bytes.{two, four}
-use borrow.Author.Rules.{rules}
 use Rattle.drawing.proofs.answers.four.Goals as goal
 
 pub returns : goal.returns

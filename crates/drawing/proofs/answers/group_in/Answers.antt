@@ -3,7 +3,6 @@
 use mathlib.Core.Path.{ap, ◌∙◌}
 use Rattle.drawing.specs.Figures.{group_of}
 use Rattle.drawing.specs.Private.{group_in}
-use borrow.Author.Rules.{rules}
 use Rattle.drawing.proofs.answers.group_in.Goals as goal
 
 pub returns : goal.returns

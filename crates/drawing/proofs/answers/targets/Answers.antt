@@ -1,10 +1,8 @@
 -- `targets` meets its contract: the count of an accepted sheet, and 0 of a refused one.
 -- Assumes nothing.
 use mathlib.Core.Path.{sym, ap, ◌∙◌}
-use native.Mathlib.Omega.{arith}
 use Rattle.sheet.specs.Reading.{Outcome, outcome}
 use Rattle.sheet.proofs.Sections.{few_targets}
-use borrow.Author.Rules.{rules}
 use Rattle.drawing.proofs.answers.targets.Goals as goal
 
 pub returns-in-Accepted : goal.returns-in-Accepted

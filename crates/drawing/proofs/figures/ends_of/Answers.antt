@@ -9,7 +9,6 @@ use Rattle.drawing.specs.declared.figures.Ends.TheVariants.{Refused}
 use Rattle.drawing.specs.Floats.{float}
 use Rattle.drawing.specs.Figures.{ends, ends_of}
 use Rattle.drawing.proofs.Ends.{refused}
-use borrow.Author.Rules.{rules}
 use Rattle.drawing.proofs.figures.ends_of.Goals as goal
 
 pub returns-in-Is : goal.returns-in-Is

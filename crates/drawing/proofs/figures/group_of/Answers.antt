@@ -4,7 +4,6 @@ use mathlib.Core.Path.{sym, ap, ◌∙◌}
 use lib.Ieee.{of_bits, of_int}
 use Rattle.drawing.specs.Floats.{float, middle}
 use Rattle.drawing.specs.Figures.{group_of}
-use borrow.Author.Rules.{rules}
 use Rattle.drawing.proofs.figures.group_of.Goals as goal
 
 pub returns-in-Answered : goal.returns-in-Answered

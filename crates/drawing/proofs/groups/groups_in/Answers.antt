@@ -1,9 +1,9 @@
 -- `groups_in` meets its contract: the groups of the answers passed stand at the front, and three zeros behind them.
 -- Assumes nothing.
 use mathlib.Core.Path.{◌≡◌, refl, ap, ◌∙◌}
-use Prim.Native.Nat.{ℕ, ◌-◌, ◌≤◌}
+use Prim.Native.Nat.{ℕ}
 use native.Mathlib.Omega.{arith}
-use lib.ListN.{length, replicate, length-set, length-replicate}
+use lib.ListN.{replicate, length-set, length-replicate}
 use Rattle.sheet.specs.Layout.{most_targets}
 use Rattle.sheet.specs.Private.{pasted}
 use Rattle.drawing.specs.Figures.{three_zeros}

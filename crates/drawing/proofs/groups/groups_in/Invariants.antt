@@ -1,14 +1,12 @@
 -- `groups_in` meets its contract: the groups of the answers passed stand at the front, and three zeros behind them.
-use mathlib.Core.Path.{◌≡◌, refl, ap, ◌∙◌}
-use Prim.Native.Nat.{ℕ, ◌-◌, ◌≤◌}
-use native.Mathlib.Omega.{arith}
-use lib.ListN.{length, replicate, length-set, length-replicate}
+use mathlib.Core.Path.{◌≡◌}
+use Prim.Native.Nat.{◌-◌, ◌≤◌}
+use lib.ListN.{length, replicate}
 use Rattle.sheet.specs.Layout.{most_targets}
 use Rattle.sheet.specs.Private.{pasted}
 use Rattle.drawing.specs.Figures.{three_zeros}
 use Rattle.drawing.specs.Groups.{listed}
 use Rattle.drawing.specs.Private.{group_in}
-use Rattle.drawing.proofs.Listing.{one_stored, all_stored}
 use Rattle.drawing.proofs.groups.groups_in.Given as goal
 
 abbrev pub invariant-loop-i : goal.invariant-loop-i

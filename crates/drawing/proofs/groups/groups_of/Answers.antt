@@ -3,7 +3,6 @@
 use mathlib.Core.Path.{ap, ◌∙◌}
 use Rattle.drawing.specs.Groups.{padded, groups_of}
 use Rattle.drawing.proofs.Bytes.{number_filled, groups_read}
-use borrow.Author.Rules.{rules}
 use Rattle.drawing.proofs.groups.groups_of.Goals as goal
 
 pub returns : goal.returns

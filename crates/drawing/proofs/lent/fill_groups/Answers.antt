@@ -15,7 +15,6 @@ use Rattle.drawing.specs.Groups.{group_at, listed}
 use Rattle.drawing.specs.Lent.{group_size, laid_out, fill_groups_of}
 use Rattle.drawing.proofs.Bytes.{number_filled, groups_read}
 use Rattle.drawing.proofs.Listing.{all_laid_out}
-use borrow.Author.Rules.{rules}
 use Rattle.drawing.proofs.lent.fill_groups.Goals as goal
 
 -- the two cases of the definition
@@ -42,5 +41,5 @@ returns c =
     let floats =
     c.put_groups.ensures
     ∙ ap (λ (gs : List Group). pasted c.args.out.now 0 (laid_out gs)) (groups_read s _ _ c.fill-number.ensures.1 count)
-    ∙ all_laid_out (group_at s) c.args.out.now (reading_of s).targets-count in
+    ∙ all_laid_out (group_at s) c.args.out.now (reading_of s).targets in
     (c.fill-number.ensures.0 ∙ number_filled s ∙ ap (λ (x : Lent Float). x.number) e, floats ∙ ap (λ (x : Lent Float). x.elements) e)

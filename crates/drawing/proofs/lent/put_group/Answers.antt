@@ -1,9 +1,6 @@
 -- `put_group` meets its contract: three stores in a row are the group.
 -- Assumes nothing.
-use native.Mathlib.Omega.{arith}
-use lib.ListN.{length-set}
 use Rattle.sheet.proofs.Pasting.{three_stores}
-use borrow.Author.Rules.{rules}
 use Rattle.drawing.proofs.lent.put_group.Goals as goal
 
 pub returns : goal.returns

@@ -1,9 +1,7 @@
 -- `put_groups` meets its contract: the groups of the answers passed stand at the front.
 -- Assumes nothing.
-use mathlib.Core.Path.{◌≡◌, refl, ap, ◌∙◌}
-use Prim.Native.Nat.{ℕ, ◌-◌, ◌≤◌}
+use mathlib.Core.Path.{refl}
 use native.Mathlib.Omega.{arith}
-use lib.ListN.{length}
 use Rattle.sheet.specs.Private.{pasted}
 use Rattle.drawing.specs.Groups.{listed}
 use Rattle.drawing.specs.Lent.{laid_out}
@@ -17,9 +15,8 @@ loop-i-init c = (omega arith, refl, refl)
 
 pub loop-i-preserved : goal.loop-i-preserved
 loop-i-preserved c =
-    let l = c.loop-i in
-    (
+    let l = c.loop-i in (
       omega arith,
-      omega (arith, c.put_group.auto.0),
-      one_laid_out (group_in c.args.answers.now) c.args.out.now l.out-1 _ l.i _ (omega (arith, c.requires.2)) l.invariant.2 c.group_in.ensures c.put_group.ensures,
+      omega (arith, c.put_group.auto.out),
+      one_laid_out (group_in c.args.answers.now) c.args.out.now l.out _ l.i _ (omega (arith, c.requires.2)) l.invariant.2 c.group_in.ensures c.put_group.ensures,
     )

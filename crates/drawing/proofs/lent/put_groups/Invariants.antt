@@ -1,13 +1,11 @@
 -- `put_groups` meets its contract: the groups of the answers passed stand at the front.
-use mathlib.Core.Path.{◌≡◌, refl, ap, ◌∙◌}
-use Prim.Native.Nat.{ℕ, ◌-◌, ◌≤◌}
-use native.Mathlib.Omega.{arith}
+use mathlib.Core.Path.{◌≡◌}
+use Prim.Native.Nat.{◌-◌, ◌≤◌}
 use lib.ListN.{length}
 use Rattle.sheet.specs.Private.{pasted}
 use Rattle.drawing.specs.Groups.{listed}
 use Rattle.drawing.specs.Lent.{laid_out}
 use Rattle.drawing.specs.Private.{group_in}
-use Rattle.drawing.proofs.Listing.{one_laid_out}
 use Rattle.drawing.proofs.lent.put_groups.Given as goal
 
 abbrev pub invariant-loop-i : goal.invariant-loop-i

@@ -4,7 +4,6 @@ use mathlib.Core.Path.{ap}
 use native.Mathlib.Omega.{arith}
 use Rattle.pairs.specs.declared.answer.Pair.{Pair}
 use Rattle.planning.proofs.Radius.{radius_most, in_mm}
-use borrow.Author.Rules.{rules}
 use Rattle.planning.proofs.distance.radius_of.Goals as goal
 
 pub overflow_add-result : goal.overflow_add-result

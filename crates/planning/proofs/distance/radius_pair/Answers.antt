@@ -1,7 +1,6 @@
 -- `radius_pair` meets its contract: step 1's operations, one by one.
 -- Assumes nothing.
 use Rattle.planning.proofs.Radius.{radius_is}
-use borrow.Author.Rules.{rules}
 use Rattle.planning.proofs.distance.radius_pair.Goals as goal
 
 pub returns : goal.returns

@@ -11,7 +11,6 @@ use Rattle.pairs.specs.Figures.{Figures, figures}
 use Rattle.pairs.specs.Answers.{root_of}
 use Rattle.pairs.proofs.Search.{root_down_passes}
 use Rattle.pairs.proofs.WholeRoot.{whole_root}
-use borrow.Author.Rules.{rules}
 use Rattle.planning.proofs.distance.whole_root.Goals as goal
 
 small : (n : ℕ) → n < 10_000_000_000_000 → root_down n < 4_000_000

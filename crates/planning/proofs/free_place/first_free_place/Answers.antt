@@ -7,7 +7,6 @@ use Rattle.chain.proofs.Limits.{number_above_0}
 use Rattle.planning.proofs.GridLimits.{in_limits}
 use Rattle.planning.proofs.AskedThere.{asked_at}
 use Rattle.planning.proofs.PlaceOutcomes.{own_is, area_within, is_42, own, walks}
-use borrow.Author.Rules.{rules}
 use Rattle.planning.proofs.free_place.first_free_place.Goals as goal
 
 pub returns-then-grid_outside : goal.returns-then-grid_outside

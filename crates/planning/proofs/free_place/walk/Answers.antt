@@ -1,25 +1,14 @@
 -- `walk` meets its contract: no place that it has left behind is free, and what was asked last is the flux there.
 -- The measures are the rows and the places that are left. Assumes nothing.
-use mathlib.Core.Path.{◌≡◌, refl, sym, ap, subst, ◌∙◌}
-use mathlib.Core.Bool.{Bool, true, false, not}
-use mathlib.Core.Logic.{⊎_elim}
-use Prim.Native.Nat.{ℕ, ◌-◌, ◌<◌}
+use mathlib.Core.Path.{sym, ap, subst, ◌∙◌}
 use native.Mathlib.Omega.{arith}
 use Rattle.chain.specs.Flux.{outside}
 use Rattle.planning.specs.Private.{Asked}
 use Rattle.planning.proofs.Walk.{NotFree, nowhere, found}
 use Rattle.planning.proofs.AskedThere.{rim_is, passed_over, pair_is, free_there, over_there}
-use borrow.Author.Rules.{rules}
 use borrow.Author.Count.{below_more}
 use Rattle.planning.proofs.free_place.walk.Goals as goal
-
-not-false : {b : Bool} → not b ≡ false → b ≡ true
-not-false {b = true} e = refl
-not-false {b = false} e = sym e
-
-not-true : {b : Bool} → not b ≡ true → b ≡ false
-not-true {b = false} e = refl
-not-true {b = true} e = sym e
+use Rattle.planning.proofs.free_place.walk.Goals.{then-not-outside+else-last-limit, else-not-outside}
 
 pub loop-place-preserved : goal.loop-place-preserved
 loop-place-preserved c =
@@ -29,16 +18,16 @@ loop-place-preserved c =
     let row = c.rows.row in
     let place = c.loop-place.place in
     let here = rim_is S limit G row place c.requires.1 c.rim_distance-rim.ensures in
-    ⊎_elim
-    (λ w. (
-      subst (Asked S) (sym w.4) w.1.ensures.1,
-      below_more (NotFree S limit G row) place c.loop-place.invariant.1 (over_there S limit G row place w.1.result (w.1.ensures.0 ∙ here) w.1.ensures.1 (omega (arith, w.3.left))),
-    ))
-    (λ w. (
-      subst (Asked S) (sym w.1) c.loop-place.invariant.0,
-      below_more (NotFree S limit G row) place c.loop-place.invariant.1 (passed_over S limit G row place here (sym c.outside.ensures ∙ not-false w.0.left)),
-    ))
-    c.if-not-outside.branch
+    elim c.if-not-outside.branch [
+      | then-not-outside+else-last-limit w ↦ (
+        subst (Asked S) (sym w.last-is) w.asked-last.ensures.1,
+        below_more (NotFree S limit G row) place c.loop-place.invariant.1 (over_there S limit G row place w.asked-last.result (w.asked-last.ensures.0 ∙ here) w.asked-last.ensures.1 (omega (arith, w.if-last-limit.false))),
+      )
+      | else-not-outside w ↦ (
+        subst (Asked S) (sym w.last-is) c.loop-place.invariant.0,
+        below_more (NotFree S limit G row) place c.loop-place.invariant.1 (passed_over S limit G row place here (sym c.outside.ensures ∙ w.if-not-outside.false)),
+      )
+    ]
 
 pub returns-then-rows-row : goal.returns-then-rows-row
 returns-then-rows-row c =
@@ -53,7 +42,7 @@ returns-then-last-limit c =
     let place = c.loop-place.place in
     let here = rim_is S limit G row place c.requires.1 c.rim_distance-rim.ensures in
     let there = c.asked-last.ensures.0 ∙ here in
-    let inside = ap (outside 1_000 200_000) c.asked-last.ensures.0 ∙ sym c.outside.ensures ∙ not-true c.if-not-outside.true in
+    let inside = ap (outside 1_000 200_000) c.asked-last.ensures.0 ∙ sym c.outside.ensures ∙ c.if-not-outside.true in
     let free = free_there S limit G row place c.asked-last.result there c.asked-last.ensures.1 inside (omega (arith, c.if-last-limit.true)) in
     pair_is S limit G row place c.asked-last.result there c.asked-last.ensures.1
     ∙ sym (found S limit G row place c.if-rows-row.false c.loop-place-test.true free c.rows.invariant.1 c.loop-place.invariant.1)

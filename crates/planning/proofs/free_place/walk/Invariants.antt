@@ -1,15 +1,7 @@
 -- `walk` meets its contract: no place that it has left behind is free, and what was asked last is the flux there.
-use mathlib.Core.Path.{◌≡◌, refl, sym, ap, subst, ◌∙◌}
-use mathlib.Core.Bool.{Bool, true, false, not}
-use mathlib.Core.Logic.{⊎_elim}
 use Prim.Native.Nat.{ℕ, ◌-◌, ◌<◌}
-use native.Mathlib.Omega.{arith}
-use Rattle.chain.specs.Flux.{outside}
 use Rattle.planning.specs.Private.{Asked}
-use Rattle.planning.proofs.Walk.{NotFree, nowhere, found}
-use Rattle.planning.proofs.AskedThere.{rim_is, passed_over, pair_is, free_there, over_there}
-use borrow.Author.Rules.{rules}
-use borrow.Author.Count.{below_more}
+use Rattle.planning.proofs.Walk.{NotFree}
 use Rattle.planning.proofs.free_place.walk.Given as goal
 
 abbrev pub invariant-loop-place : goal.invariant-loop-place

@@ -2,7 +2,6 @@
 -- Assumes nothing.
 use mathlib.Core.Path.{◌≡◌, sym, ap, ap₂, subst, ◌∙◌}
 use Prim.Native.Nat.{ℕ, ◌+◌, ◌*◌, ◌^◌, ◌≤◌, ◌<◌}
-use native.Mathlib.Omega.{arith}
 use lib.IntN.{ℤ, nat_abs, pos, ◌+ℤ◌}
 use lib.Signed.{mag}
 use mir.Syntax.{w32}
@@ -13,8 +12,8 @@ use Rattle.chain.proofs.Magnitude.{read}
 use Rattle.planning.specs.declared.grid.Grid.{Grid}
 use Rattle.planning.specs.Grid.{east_of, north_of, centre_distance}
 use Rattle.planning.specs.PlaceClaims.{InLimits}
-use Rattle.planning.proofs.Offsets.{reached, east_most, north_most, squares_fit}
-use borrow.Author.Rules.{rules, sfits_of}
+use Rattle.planning.proofs.Offsets.{east_most, north_most, squares_fit}
+use borrow.Author.Rules.{sfits_of}
 use Rattle.planning.proofs.grid.centre_distance.Goals as goal
 
 -- an offset, read back from its bits

@@ -12,7 +12,7 @@ use Rattle.chain.specs.Flux.{outside}
 use Rattle.chain.proofs.Magnitude.{read}
 use Rattle.planning.specs.declared.grid.Grid.{Grid}
 use Rattle.planning.specs.Grid.{grid_outside}
-use borrow.Author.Rules.{rules, sfits_of}
+use borrow.Author.Rules.{sfits_of}
 use Rattle.planning.proofs.grid.grid_outside.Goals as goal
 
 tested :

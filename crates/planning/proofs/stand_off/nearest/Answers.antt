@@ -4,8 +4,7 @@ use mathlib.Core.Path.{◌≡◌, sym, ap, ◌∙◌, subst}
 use Prim.Native.Nat.{◌-◌, ◌≤◌, ◌<◌}
 use native.Mathlib.Omega.{arith}
 use lib.Dec.{T}
-use Rattle.planning.specs.declared.stand_off.StandOff.TheVariants.{Is}
-use Rattle.planning.specs.StandOff.{shown, keeps_from, shown_at}
+use Rattle.planning.specs.StandOff.{keeps_from, shown_at}
 use Rattle.planning.proofs.PairAt.{distance_of, there, high_of}
 use Rattle.planning.proofs.Nearest.{keeps_farthest, keeps_nearer, stand_off_is}
 use Rattle.planning.proofs.stand_off.nearest.Goals as goal

@@ -1,12 +1,9 @@
 -- `nearest` meets its contract: the limit is kept from where the loop stands to the far end of the span.
-use mathlib.Core.Path.{◌≡◌, sym, ap, ◌∙◌, subst}
-use Prim.Native.Nat.{◌-◌, ◌≤◌, ◌<◌}
-use native.Mathlib.Omega.{arith}
+use mathlib.Core.Path.{◌≡◌}
+use Prim.Native.Nat.{◌≤◌}
 use lib.Dec.{T}
 use Rattle.planning.specs.declared.stand_off.StandOff.TheVariants.{Is}
 use Rattle.planning.specs.StandOff.{shown, keeps_from, shown_at}
-use Rattle.planning.proofs.PairAt.{distance_of, there, high_of}
-use Rattle.planning.proofs.Nearest.{keeps_farthest, keeps_nearer, stand_off_is}
 use Rattle.planning.proofs.stand_off.nearest.Given as goal
 
 abbrev pub invariant-loop-here : goal.invariant-loop-here

@@ -4,8 +4,6 @@ use mathlib.Core.Path.{sym, ap, ◌∙◌}
 use native.Mathlib.Omega.{arith}
 use Rattle.chain.specs.Flux.{Shown, shown, number_of}
 use Rattle.chain.proofs.Limits.{number_above_0}
-use borrow.Author.Rules.{rules}
-use Rattle.planning.proofs.PairAt.{pair_there}
 use Rattle.planning.proofs.Outcomes.{flux_first, over, kept, over_by, kept_by}
 use Rattle.planning.proofs.stand_off.stand_off.Goals as goal
 
