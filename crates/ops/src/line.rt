@@ -92,10 +92,8 @@ fn with_byte(ns: Numbers, byte: u8) -> Numbers {
 // The numbers of what follows a name.
 pub(crate) fn numbers_in(text: &[u8]) -> Numbers {
     let mut ns = no_numbers();
-    let mut i = 0;
-    while i < text.len() {
-        ns = with_byte(ns, text[i]);
-        i += 1;
+    for b in text {
+        ns = with_byte(ns, *b);
     }
     if ns.awaited {
         return unreadable(ns);
@@ -108,12 +106,10 @@ pub(crate) fn place_of(text: &[u8], byte: u8, from: usize) -> usize
     requires { from ≤ length text.now }
     ensures { (from ≤ result) × (result ≤ length text.now) }
 {
-    let mut i = from;
-    while i < text.len() {
+    for i in from..text.len() {
         if text[i] == byte {
             return i;
         }
-        i += 1;
     }
-    i
+    text.len()
 }

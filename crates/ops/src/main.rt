@@ -170,10 +170,8 @@ fn print_reply(rt: &impl Print, r: Reply) -> io::Result<()> {
 fn print_fewest(rt: &impl Print, w: FewestPools) -> io::Result<()> {
     rt.print(w.state as u64)?;
     print_after_blank(rt, w.count as u64)?;
-    let mut i = 0;
-    while i < 32 && i < w.count as usize {
-        print_after_blank(rt, w.numbers[i] as u64)?;
-        i += 1;
+    for n in w.numbers.iter().take(w.count as usize) {
+        print_after_blank(rt, *n as u64)?;
     }
     rt.write_all(b"\n")
 }

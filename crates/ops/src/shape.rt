@@ -18,8 +18,7 @@ pub(crate) fn has_shape(ns: Numbers, shape: &[u8]) -> bool {
     if !ns.readable || ns.count != shape.len() {
         return false;
     }
-    let mut i = 0;
-    while i < shape.len() {
+    for i in 0..shape.len() {
         if 13 < i {
             return false;
         }
@@ -31,7 +30,6 @@ pub(crate) fn has_shape(ns: Numbers, shape: &[u8]) -> bool {
         if greatest(letter, sign) < ns.values[i] {
             return false;
         }
-        i += 1;
     }
     true
 }

@@ -118,10 +118,8 @@ fn appended(n: u64, digit: u8) -> u64 {
 
 fn number_in(s: &[u8]) -> u64 {
     let mut n: u64 = 0;
-    let mut i = 0;
-    while i < s.len() {
-        n = appended(n, s[i]);
-        i += 1;
+    for b in s {
+        n = appended(n, *b);
     }
     n
 }

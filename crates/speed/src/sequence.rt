@@ -19,11 +19,9 @@ fn end_of(x: u64) -> u64 {
 pub(crate) fn ends() -> [u64; 1024] {
     let mut numbers = [0u64; 1024];
     let mut x: u64 = 88_172_645_463_325_252;
-    let mut i = 0;
-    while i < 1024 {
+    for i in 0..1024 {
         x = stepped(x);
         numbers[i] = end_of(x);
-        i += 1;
     }
     numbers
 }
