@@ -1,4 +1,4 @@
-// Links the proved static library: `rt staticlib sheet` writes it.
+// Links the proved static library: `./staticlib sheet`, at the top, writes it.
 fn main() {
     let folder = format!("{}/../target/staticlib", env!("CARGO_MANIFEST_DIR"));
     println!("cargo:rustc-link-search=native={folder}");

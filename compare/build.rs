@@ -1,4 +1,4 @@
-// Links the proved static libraries: `rt staticlib sheet` and `rt staticlib drawing` write them.
+// Links the proved static libraries: `./staticlib sheet drawing`, at the top, writes them.
 fn main() {
     let folder = format!("{}/../target/staticlib", env!("CARGO_MANIFEST_DIR"));
     println!("cargo:rustc-link-search=native={folder}");

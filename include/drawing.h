@@ -1,4 +1,4 @@
-/* The groups of a sheet for a host in C: link target/staticlib/libdrawing.a, which `rt staticlib drawing` proves and writes. */
+/* The groups of a sheet for a host in C: link target/staticlib/libdrawing.a, which `./staticlib drawing` proves and writes. */
 #ifndef DRAWING_H
 #define DRAWING_H
 

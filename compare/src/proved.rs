@@ -1,6 +1,6 @@
 //! The proved library, and how many change requests are in force in it.
 
-pub const REQUESTS: u8 = 14;
+pub const REQUESTS: u8 = 13;
 
 extern "C" {
     /// A slice of Rattle is a pointer and a length.
