@@ -34,16 +34,15 @@ former_flux_of E =
     (refuse (stage_too_large E) (refused 17)
     (accepted E)))))))))
 
--- The tests of today, and then 17.
-with_17 : (E : Enquiry) → former_flux_of E ≡ first_that_applies refused (tests E) (refuse (stage_too_large E) (refused 17) (accepted E))
-unfolding former_flux_of limits
-with_17 E = refl
-
 pub nothing_moved : (E : Enquiry) → former_flux_of E ≡ flux_of E
-unfolding flux_of
+unfolding former_flux_of limits flux_of
 nothing_moved E =
-    with_17 E
+    with_17
     ∙ same_after_tests refused (λ s t. s ≡ t) (λ _. refl) (tests E) _ (accepted E) (λ none. rw (unrefused E (limited E none)).flux_given)
+  where
+    -- The tests of today, and then 17.
+    with_17 : former_flux_of E ≡ first_that_applies refused (tests E) (refuse (stage_too_large E) (refused 17) (accepted E))
+    with_17 = refl
 
 -- The factor alone was written test by test too.
 unfoldable pub former_factor_of : ℕ → ℕ → ℕ → Figures
