@@ -4,6 +4,8 @@
 // `unreadable`. The register is empty at the start and goes from line to line.
 #![tactic(auto)]
 
+ghost use Rattle.std.specs.Prelude.{IfOk, length, ◌^◌, ◌≤◌, ◌<◌};
+
 mod call;
 mod enquiry;
 mod from_limit;
@@ -219,8 +221,30 @@ fn answer_lines(rt: &impl Print, text: &[u8]) -> io::Result<()> {
     Ok(())
 }
 
+// Reads to the end of the input or of the buffer, in pieces of any size.
+fn read_text(stdin: &mut impl Read, text: &mut [u8]) -> io::Result<usize>
+    ensures { IfOk result (λ n. n ≤ length text.old) }
+{
+    let mut filled = 0;
+    while filled < text.len() {
+        let n = stdin.read(&mut text[filled..])?;
+        if n == 0 {
+            return Ok(filled);
+        }
+        filled += n;
+    }
+    Ok(filled)
+}
+
+// Answers the lines of the first N bytes.
+fn answer_input<const N: usize>(rt: &impl Print, stdin: &mut impl Read) -> io::Result<()>
+    requires { N < 2 ^ 63 }
+{
+    let mut text = [0u8; N];
+    let n = read_text(stdin, &mut text)?;
+    answer_lines(rt, &text[..n])
+}
+
 fn main(rt: HostRuntime) -> io::Result<()> {
-    let mut text = Vec::new(rt.alloc());
-    rt.stdin().take(524_288).read_to_end(&mut text)?;
-    answer_lines(&rt, &text)
+    answer_input::<524_288>(&rt, &mut rt.stdin())
 }
