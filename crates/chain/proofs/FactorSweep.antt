@@ -73,7 +73,7 @@ pub record Factors (G : Grid) (y e : Figures) : Type 0 where
   pub upright : Held (vertical answers y e) G.upright
   pub level : Held (horizontal answers y e) G.level
 
-module _ (G : Grid) (distance_Grows : Grows G.distance_width) (height_grows : Grows G.height_width) where
+module _ (G : Grid) (distance_grows : Grows G.distance_width) (height_grows : Grows G.height_width) where
   abbrev Height : Figures → ℕ → Type 0
   Height e i = (y : Figures) → y.pair.low ≡ i → Placed G y e → Factors G y e
 
@@ -96,7 +96,7 @@ module _ (G : Grid) (distance_Grows : Grows G.distance_width) (height_grows : Gr
   unfolding height_sweep
   row c d t j p q y e eq h =
       let below : e.pair.low ≤ d = rw eq q in
-      let near : e.pair.high ≤ e.pair.low + G.distance_width d = omega (arith, h.distance_near, distance_Grows e.pair.low d below) in
+      let near : e.pair.high ≤ e.pair.low + G.distance_width d = omega (arith, h.distance_near, distance_grows e.pair.low d below) in
       let E = row_run_kept within (in_box {f = e} c d (G.distance_width d) h.distance_given (rw eq p) below h.distance_ordered near) in
       swept (box_test G (row_of G c d) (G.height_width d)) (G.next_height c) (Height e)
       (tested (row_of G c d) (G.height_width d) e E (height_grows e.pair.low d below)) 60 G.lowest (suc G.highest) t y.pair.low

@@ -1,4 +1,4 @@
--- What haze makes of E-as-F: at 1,000 q is E-as-F itself; below that no high end grows, and q is wider by a trillionth at most. What is
+-- What haze makes of E·F: at 1,000 q is E·F itself; below that no high end grows, and q is wider by a trillionth at most. What is
 -- printed comes from q. By the roundings of one division. Assumes nothing.
 use mathlib.Core.Path.{◌≡◌, refl, subst, ap, ◌∙◌}
 use Prim.Native.Nat.{ℕ, ◌+◌, ◌-◌, ◌*◌, ◌≤◌}
@@ -37,12 +37,12 @@ module _ (clear : Pair) {t : ℕ} (most : t ≤ 1000) where
 
 -- ---- one enquiry
 module _ (E : Enquiry) where
-  -- At 1,000 q is E-as-F itself.
+  -- At 1,000 q is E·F itself.
   pub flux_clear : E.transmissivity ≡ 1000 → radiant_flux rounded E ≡ clear_flux rounded E
   unfolding radiant_flux
   flux_clear at_1000 = ap (λ (t : ℕ). transmitted rounded t (clear_flux rounded E)) at_1000 ∙ all_transmitted (clear_flux rounded E)
 
-  -- q is at most a trillionth wider than E-as-F.
+  -- q is at most a trillionth wider than E·F.
   pub hazy_near :
       E.transmissivity ≤ 1000 → (w : ℕ) → (clear_flux rounded E).high ≤ (clear_flux rounded E).low + w
       → (radiant_flux rounded E).high ≤ (radiant_flux rounded E).low + (w + 1)

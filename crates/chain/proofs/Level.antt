@@ -126,7 +126,7 @@ factor_level face l e =
     ap₂ (by_face rounded face) (above_level l e) (ap (λ (y : Pair). horizontal rounded y e) (less_0 l))
 
 -- ---- the chain
--- E-as-F as it was before there were heights: with step 7's factor of l and e.
+-- E·F as it was before there were heights: with step 7's factor of l and e.
 abbrev pub level_flux : Enquiry → Pair
 level_flux E = R.product (emissive_power_of rounded E) (factor rounded E.face (relative_height_of rounded E) (relative_distance_of rounded E))
 

@@ -34,7 +34,7 @@ use Rattle.chain.proofs.Haze.{transmitted_ordered, transmitted_high}
 pub agreed_inside : {f : Figures} {p : Pair} {b : Bound} → Agrees f p → Held f b → Inside p b
 agreed_inside {b = b} a h = subst (λ p. Inside p b) (a.same h.given) h.inside
 
--- E-as-F in trillionths of a kW/m², whatever the method, the face and the height.
+-- E·F in trillionths of a kW/m², whatever the method, the face and the height.
 abbrev clear_bound : Bound
 clear_bound = record { least = 0; most = 6_300 * U; width = 2_100 * U; safe = true }
 
@@ -87,7 +87,7 @@ module _ (E : Enquiry) (w : Limited E) where
       (within.product (known any_power_held)
       (known (factor_at_held height_held elevation_held distance_spaced (non_neg E.height) E.face)))
 
-  -- 1,000 times E-as-F is below 2^64 trillionths, so neither operation of the haze refuses.
+  -- 1,000 times E·F is below 2^64 trillionths, so neither operation of the haze refuses.
   flux_not_refused : (radiant_flux answers E).number ≡ 0
   unfolding radiant_flux transmitted
   flux_not_refused =

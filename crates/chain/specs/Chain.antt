@@ -243,6 +243,6 @@ module _ (A : Arithmetic) where
   unfoldable pub clear_flux : Enquiry → A.Carrier
   clear_flux E = A.product (emissive_power_of E) (configuration_factor_of E)
 
-  -- Request 3: q is E-as-F times the transmissivity of the enquiry over 1,000. (A.1)
+  -- Request 3: q is E·F times the transmissivity of the enquiry over 1,000. (A.1)
   unfoldable pub radiant_flux : Enquiry → A.Carrier
   radiant_flux E = transmitted E.transmissivity (clear_flux E)

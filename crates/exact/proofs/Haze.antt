@@ -1,4 +1,4 @@
--- At 1,000 the exact q is E-as-F: each end the same fraction, written with larger numbers. By cross products. Assumes nothing.
+-- At 1,000 the exact q is E·F: each end the same fraction, written with larger numbers. By cross products. Assumes nothing.
 use mathlib.Core.Path.{◌≡◌, sym}
 use Prim.Native.Nat.{ℕ, zero, ◌*◌, ◌<◌}
 use native.Mathlib.Nat.{mul_right_comm, mul_assoc, mul-one, mul-pos, le_of_eq, suc-pred-eq_of_pos}

@@ -29,12 +29,12 @@ use Rattle.chain.proofs.Level.{clear_level}
 use Rattle.widths.proofs.HighFlame.{high_flame}
 use Rattle.widths.proofs.FactorWidths.{Placement, level_bound, above_bound, below_bound, level_within, above_within, below_within}
 
--- ---- bounds of E-as-F
+-- ---- bounds of E·F
 -- From a bound of the factor, in trillionths of a kW/m².
 unfoldable pub clear_bound : ℕ → Bound → Bound
 clear_bound method F = B.product (emissive_bound method) F
 
--- How wide E-as-F is at most, in trillionths of a kW/m², by method and face: at any height, and level with the base.
+-- How wide E·F is at most, in trillionths of a kW/m², by method and face: at any height, and level with the base.
 unfoldable pub width_of : ℕ → ℕ → ℕ
 width_of method face = max (clear_bound method (above_bound face)).width (clear_bound method (below_bound face)).width
 
@@ -49,7 +49,7 @@ pub level_widths : (level_width_of 1 1 ≡ 190_100_001) × (level_width_of 1 2 �
 unfolding opened level_width_of clear_bound emissive_bound level_bound face_bound
 level_widths = (refl, refl, refl, refl, refl, refl, refl, refl, refl)
 
--- ---- whatever the method, the face and the height, E-as-F is not refused
+-- ---- whatever the method, the face and the height, E·F is not refused
 -- Each method, on each of the faces.
 abbrev face_tests : Bound → List Bool → List Bool
 face_tests F rest = (B.product emissive_bound_1 F).safe ∷ (B.product emissive_bound_2 F).safe ∷ (B.product emissive_bound_3 F).safe ∷ rest
