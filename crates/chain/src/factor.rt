@@ -192,7 +192,7 @@ fn is_zero(a: Answer) -> bool
 // The vertical face at y: that of [0, 0] is [0, 0] and is not worked.
 fn vertical_at(y: Answer, terms: DistanceTerms, up: Upright) -> Answer
     requires distance_terms_of { DistanceTermsOf terms × UprightOf up }
-    requires e_value { up.e ≡ terms.e }
+    requires same_distance { up.e ≡ terms.e }
     requires spaced { Spaced (figures terms.e) }
     ensures { figures result ≡ chain.vertical answers (figures y) (figures terms.e) }
 {
@@ -211,7 +211,7 @@ fn vertical_above(
     up: Upright,
 ) -> Answer
     requires distance_terms_of { DistanceTermsOf terms × UprightOf up }
-    requires e_value { up.e ≡ terms.e }
+    requires same_distance { up.e ≡ terms.e }
     requires spaced { Spaced (figures terms.e) }
     requires between_value { figures between ≡ chain.vertical answers (answers.difference (figures l) (figures h)) (figures terms.e) }
     ensures { figures result ≡ chain.vertical_above answers (figures l) (figures h) (figures terms.e) }

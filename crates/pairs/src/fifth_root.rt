@@ -89,10 +89,10 @@ struct Bracket {
 
 // The part of the bracket below or above `at`.
 fn narrowed(b: Bracket, at: u64, t: Words, extra: u64) -> Bracket
-    requires extra_bound { extra < 1_000_000 }
+    requires rounding { extra < 1_000_000 }
     requires brackets { Brackets extra (t.high * 2 ^ 64 + t.low) b.lower b.upper }
-    ensures brackets_2 { Brackets extra (t.high * 2 ^ 64 + t.low) result.lower result.upper }
-    ensures lower_bound { b.lower < at → at < b.upper → result.upper - result.lower < b.upper - b.lower }
+    ensures kept { Brackets extra (t.high * 2 ^ 64 + t.low) result.lower result.upper }
+    ensures narrower { b.lower < at → at < b.upper → result.upper - result.lower < b.upper - b.lower }
 {
     if at <= b.lower {
         return b;

@@ -7,16 +7,10 @@ use native.Mathlib.Omega.{arith}
 use lib.ListN.{length, drop, drop_of_length-le}
 use lib.Seq.{drop-cons}
 use Rattle.register.specs.declared.places.BurningPool.{BurningPool}
-use Rattle.register.specs.declared.places.Register.{Register}
 use Rattle.register.specs.Places.{vacant}
 use Rattle.register.specs.Sums.{over_burning}
 use Rattle.register.specs.Private.{first_of}
-use Rattle.register.specs.contracts.places.Register.{the_type}
 use Rattle.register.proofs.ByNumber.{pool_at, first_here, first_later, first_none, sum_vacant, sum_burning, sum_none}
-
--- A register has 32 places, as the machine has it.
-pub as_long : (R : Register) → length (the_type.to R).0 ≡ 32 → length R.places ≡ 32
-as_long R e = e
 
 -- The first place of the number stands at i or after it.
 abbrev pub FirstFrom : ℕ → List BurningPool → ℕ → Type 0

@@ -3,6 +3,7 @@
 use mathlib.Core.Path.{◌≡◌, refl, sym, ap, ◌∙◌}
 use mathlib.Core.Bool.{Bool, not}
 use Prim.Native.Nat.{ℕ, ◌<◌, ◌^◌}
+use native.Mathlib.Omega.{arith}
 use lib.IntN.{ℤ}
 use lib.Signed.{mag}
 use mir.Syntax.{w32}
@@ -57,15 +58,15 @@ pub returns-then-height_outside : goal.returns-then-height_outside
 unfolding limits
 returns-then-height_outside c =
     is _ 5 18
-    (ap not (sym c.fuel_within.ensures ∙ c.if-not-fuel_within.false), (sym c.outside.ensures ∙ c.if-outside.false, (sym c.outside-2.ensures ∙ c.if-outside-2.false, (sym c.outside-3.ensures ∙ c.if-outside-3.false, (sym c.outside-4.ensures ∙ c.if-outside-4.false, (read _ c.struct_told-1.given.1.1.1.1.1.1.1.0.1 c.height_outside.ensures c.if-height_outside.true, refl))))))
+    (ap not (sym c.fuel_within.ensures ∙ c.if-not-fuel_within.false), (sym c.outside.ensures ∙ c.if-outside.false, (sym c.outside-2.ensures ∙ c.if-outside-2.false, (sym c.outside-3.ensures ∙ c.if-outside-3.false, (sym c.outside-4.ensures ∙ c.if-outside-4.false, (read _ (omega arith) c.height_outside.ensures c.if-height_outside.true, refl))))))
 
 pub returns-then-outside-5 : goal.returns-then-outside-5
 unfolding limits
 returns-then-outside-5 c =
     is _ 6 19
-    (ap not (sym c.fuel_within.ensures ∙ c.if-not-fuel_within.false), (sym c.outside.ensures ∙ c.if-outside.false, (sym c.outside-2.ensures ∙ c.if-outside-2.false, (sym c.outside-3.ensures ∙ c.if-outside-3.false, (sym c.outside-4.ensures ∙ c.if-outside-4.false, (read _ c.struct_told-1.given.1.1.1.1.1.1.1.0.1 c.height_outside.ensures c.if-height_outside.false, (sym c.outside-5.ensures ∙ c.if-outside-5.true, refl)))))))
+    (ap not (sym c.fuel_within.ensures ∙ c.if-not-fuel_within.false), (sym c.outside.ensures ∙ c.if-outside.false, (sym c.outside-2.ensures ∙ c.if-outside-2.false, (sym c.outside-3.ensures ∙ c.if-outside-3.false, (sym c.outside-4.ensures ∙ c.if-outside-4.false, (read _ (omega arith) c.height_outside.ensures c.if-height_outside.false, (sym c.outside-5.ensures ∙ c.if-outside-5.true, refl)))))))
 
 pub flux_within-requires : goal.flux_within-requires
 unfolding limits
 flux_within-requires c =
-    (ap not (sym c.fuel_within.ensures ∙ c.if-not-fuel_within.false), (sym c.outside.ensures ∙ c.if-outside.false, (sym c.outside-2.ensures ∙ c.if-outside-2.false, (sym c.outside-3.ensures ∙ c.if-outside-3.false, (sym c.outside-4.ensures ∙ c.if-outside-4.false, (read _ c.struct_told-1.given.1.1.1.1.1.1.1.0.1 c.height_outside.ensures c.if-height_outside.false, (sym c.outside-5.ensures ∙ c.if-outside-5.false, tt)))))))
+    (ap not (sym c.fuel_within.ensures ∙ c.if-not-fuel_within.false), (sym c.outside.ensures ∙ c.if-outside.false, (sym c.outside-2.ensures ∙ c.if-outside-2.false, (sym c.outside-3.ensures ∙ c.if-outside-3.false, (sym c.outside-4.ensures ∙ c.if-outside-4.false, (read _ (omega arith) c.height_outside.ensures c.if-height_outside.false, (sym c.outside-5.ensures ∙ c.if-outside-5.false, tt)))))))

@@ -24,13 +24,10 @@ note_is : (method low q : ℕ) (a b : Bool) → low ≡ down (1000 * q) U → eq
 note_is method low q a b e f g = rw (← e, f, g)
 
 pub returns-then-low-le5000 : goal.returns-then-low-le5000
-returns-then-low-le5000 c = let a = c.args in
-    record { low = low_is _; high = high_is _; note = note_is a.method (a.q.low / 1_000_000_000) a.q.low true true (low_is a.q.low) (eq-eqb _ 1 c.if-method-eq1.true) (le-leb _ 5000 c.if-low-le5000.true) }
+returns-then-low-le5000 c = record { low = low_is _; high = high_is _; note = note_is c.args.method (c.args.q.low / 1_000_000_000) c.args.q.low true true (low_is c.args.q.low) (eq-eqb _ 1 c.if-method-eq1.true) (le-leb _ 5000 c.if-low-le5000.true) }
 
 pub returns-else-low-le5000 : goal.returns-else-low-le5000
-returns-else-low-le5000 c = let a = c.args in
-    record { low = low_is _; high = high_is _; note = note_is a.method (a.q.low / 1_000_000_000) a.q.low true false (low_is a.q.low) (eq-eqb _ 1 c.if-method-eq1.true) (lt-leb _ 5000 c.if-low-le5000.false) }
+returns-else-low-le5000 c = record { low = low_is _; high = high_is _; note = note_is c.args.method (c.args.q.low / 1_000_000_000) c.args.q.low true false (low_is c.args.q.low) (eq-eqb _ 1 c.if-method-eq1.true) (lt-leb _ 5000 c.if-low-le5000.false) }
 
 pub returns-else-method-eq1 : goal.returns-else-method-eq1
-returns-else-method-eq1 c = let a = c.args in
-    record { low = low_is _; high = high_is _; note = note_is a.method (a.q.low / 1_000_000_000) a.q.low false _ (low_is a.q.low) (ne_eqb _ 1 c.if-method-eq1.false) refl }
+returns-else-method-eq1 c = record { low = low_is _; high = high_is _; note = note_is c.args.method (c.args.q.low / 1_000_000_000) c.args.q.low false _ (low_is c.args.q.low) (ne_eqb _ 1 c.if-method-eq1.false) refl }

@@ -59,5 +59,4 @@ pub overflow_add-sum_high : goal.overflow_add-sum_high
 overflow_add-sum_high c = omega (arith, divided_up_le _ _ _ (omega arith) c.divided_up-last.ensures)
 
 pub returns : goal.returns
-returns c = let d = c in
-    all _ _ _ d.loop-n.invariant.1 (omega arith) d.divided_up-last.ensures c.less.ensures c.less-2.ensures
+returns c = all _ _ _ c.loop-n.invariant.1 (omega arith) c.divided_up-last.ensures c.less.ensures c.less-2.ensures

@@ -25,11 +25,9 @@ returns-in_default c = refused_before c.args.a c.in_default.not-Is
 
 pub returns-in_default-angle : goal.returns-in_default-angle
 unfolding A.times
-returns-in_default-angle c = let d = c in
-    fourfold _ _ _ _ d.in-Is.is c.arc-angle.ensures (stays c.arc-angle.result _ c.in_default-angle.not-Is)
+returns-in_default-angle c = fourfold _ _ _ _ c.in-Is.is c.arc-angle.ensures (stays c.arc-angle.result _ c.in_default-angle.not-Is)
 
 pub returns : goal.returns
 unfolding A.times
-returns c = let d = c in
-    fourfold _ _ _ _ d.in-Is.is d.arc-angle.ensures
+returns c = fourfold _ _ _ _ c.in-Is.is c.arc-angle.ensures
     (gives_one (λ (p : Pair). times_of p 4) _ _ _ c.in-Is-angle.is c.times.ensures)

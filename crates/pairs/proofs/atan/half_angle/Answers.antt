@@ -23,7 +23,6 @@ unfolding half_angle A.quotient
 returns-in_default c = stays c.args.a _ c.in_default.not-Is
 
 pub returns : goal.returns
-returns c = let d = c in
-    c.quotient_by.ensures
-    ∙ steps _ _ _ _ _ _ d.in-Is.is d.product.ensures c.one_more.ensures
+returns c = c.quotient_by.ensures
+    ∙ steps _ _ _ _ _ _ c.in-Is.is c.product.ensures c.one_more.ensures
     c.root_of.ensures c.one_more-2.ensures

@@ -65,7 +65,6 @@ pub loop-preserved : goal.loop-preserved
 loop-preserved c = (omega arith, again _ _ _ _ (omega arith) c.square-power.ensures c.loop.invariant.1)
 
 pub returns : goal.returns
-returns c = let d = c in
-    finished _ _ _ (omega arith) c.loop.invariant.1
-    ∙ all_squares _ _ (omega arith) (omega arith) d.divided_up.ensures _ d.alternating_exp.ensures
+returns c = finished _ _ _ (omega arith) c.loop.invariant.1
+    ∙ all_squares _ _ (omega arith) (omega arith) c.divided_up.ensures _ c.alternating_exp.ensures
     ∙ exp_below_20 _ (omega arith) (omega arith) (omega arith)

@@ -18,5 +18,4 @@ pub returns-then-p : goal.returns-then-p
 returns-then-p c = (fifth_root_turned _).is_61 c.if-p.true
 
 pub returns : goal.returns
-returns c = let e = c in
-    answered _ _ _ e.if-p.false c.fifth_root_up_of.type_inv c.fifth_root_down_of.ensures c.fifth_root_up_of.ensures
+returns c = answered _ _ _ c.if-p.false c.fifth_root_up_of.type_inv c.fifth_root_down_of.ensures c.fifth_root_up_of.ensures

@@ -9,13 +9,11 @@ pub rounded_product-square-requires : goal.rounded_product-square-requires
 rounded_product-square-requires c = omega (arith, square_le c.args.extra c.args.s c.requires.1 c.requires.0)
 
 pub rounded_product-cube-requires : goal.rounded_product-cube-requires
-rounded_product-cube-requires c = let a = c in
-    rw c.rounded_product-square.ensures (omega (arith, cube_le a.args.extra a.args.s a.requires.1 a.requires.0))
+rounded_product-cube-requires c = rw c.rounded_product-square.ensures (omega (arith, cube_le c.args.extra c.args.s c.requires.1 c.requires.0))
 
 pub rounded_product-requires : goal.rounded_product-requires
 unfolding fourth_power
-rounded_product-requires c = let a = c in
-    rw (c.rounded_product-cube.ensures, c.rounded_product-square.ensures) (omega (arith, fourth_le a.args.extra a.args.s a.requires.1 a.requires.0))
+rounded_product-requires c = rw (c.rounded_product-cube.ensures, c.rounded_product-square.ensures) (omega (arith, fourth_le c.args.extra c.args.s c.requires.1 c.requires.0))
 
 pub returns : goal.returns
 unfolding fourth_power

@@ -1,8 +1,8 @@
 -- `divided_up` meets its contract: the quotient, and one more where anything is left.
 -- Assumes nothing.
 use mathlib.Core.Path.{◌≡◌, sym}
-use Prim.Native.Nat.{ℕ, zero, ◌+◌, ◌-◌, ◌/◌, ◌%◌, ◌^◌, ◌<◌}
-use native.Mathlib.Nat.{mod-lt, mul-le-mul_left, div-add-mod', div-eq_of_lt-le}
+use Prim.Native.Nat.{ℕ, zero, ◌+◌, ◌-◌, ◌/◌, ◌%◌, ◌<◌}
+use native.Mathlib.Nat.{mod-lt, div-add-mod', div-eq_of_lt-le}
 use native.Mathlib.Omega.{arith}
 use Rattle.pairs.specs.Rounded.{up}
 use Rattle.pairs.proofs.over.divided_up.Goals as goal
@@ -15,10 +15,6 @@ even b n p e = sym (div-eq_of_lt-le {k = b / n} n {m = b + (n - 1)} (omega (arit
 odd : (b n : ℕ) → zero < n → (b % n ≡ zero → ⊥) → b / n + 1 ≡ up b n
 unfolding up
 odd b n p e = sym (div-eq_of_lt-le {k = b / n + 1} n {m = b + (n - 1)} (omega (arith, div-add-mod' b n)) (omega (arith, div-add-mod' b n, mod-lt b p)))
-
--- a remainder that is not 0 has a divisor above 1, so the quotient is not the largest word
-room : (b n : ℕ) → zero < n → b < 2 ^ 64 → (b % n ≡ zero → ⊥) → b / n + 1 < 2 ^ 64
-room b n p f e = omega (arith, div-add-mod' b n, mul-le-mul_left (b / n) p)
 
 pub returns-then-b-n-eq0 : goal.returns-then-b-n-eq0
 returns-then-b-n-eq0 c = even _ _ c.requires c.if-b-n-eq0.true

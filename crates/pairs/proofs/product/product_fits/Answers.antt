@@ -9,21 +9,16 @@ use Rattle.pairs.proofs.product.Parts.{parts}
 use Rattle.pairs.proofs.product.product_fits.Goals as goal
 
 pub returns-then-whole-gt18446744 : goal.returns-then-whole-gt18446744
-returns-then-whole-gt18446744 c = let a = c.args in
-    sym (le-ltb (carried 999_999 (a.a * a.c)) (2 ^ 64) (omega (arith, parts a.a a.c 999_999)))
+returns-then-whole-gt18446744 c = sym (le-ltb (carried 999_999 (c.args.a * c.args.c)) (2 ^ 64) (omega (arith, parts c.args.a c.args.c 999_999)))
 
 pub returns-then-first-second : goal.returns-then-first-second
-returns-then-first-second c = let a = c.args in
-    sym (le-ltb (carried 999_999 (a.a * a.c)) (2 ^ 64) (omega (arith, parts a.a a.c 999_999)))
+returns-then-first-second c = sym (le-ltb (carried 999_999 (c.args.a * c.args.c)) (2 ^ 64) (omega (arith, parts c.args.a c.args.c 999_999)))
 
 pub returns-then-first-second-2 : goal.returns-then-first-second-2
-returns-then-first-second-2 c = let a = c.args in
-    sym (le-ltb (carried 999_999 (a.a * a.c)) (2 ^ 64) (omega (arith, parts a.a a.c 999_999)))
+returns-then-first-second-2 c = sym (le-ltb (carried 999_999 (c.args.a * c.args.c)) (2 ^ 64) (omega (arith, parts c.args.a c.args.c 999_999)))
 
 pub returns-then-first-second-3 : goal.returns-then-first-second-3
-returns-then-first-second-3 c = let a = c.args in
-    sym (le-ltb (carried 999_999 (a.a * a.c)) (2 ^ 64) (omega (arith, parts a.a a.c 999_999, c.fraction.ensures)))
+returns-then-first-second-3 c = sym (le-ltb (carried 999_999 (c.args.a * c.args.c)) (2 ^ 64) (omega (arith, parts c.args.a c.args.c 999_999, c.fraction.ensures)))
 
 pub returns : goal.returns
-returns c = let a = c.args in
-    sym (lt-ltb (carried 999_999 (a.a * a.c)) (2 ^ 64) (omega (arith, parts a.a a.c 999_999, c.fraction.ensures)))
+returns c = sym (lt-ltb (carried 999_999 (c.args.a * c.args.c)) (2 ^ 64) (omega (arith, parts c.args.a c.args.c 999_999, c.fraction.ensures)))

@@ -31,11 +31,6 @@ unfolding rounded.quotient
 large p q h l o k z e f =
     (quotient_turned p q).is_64 o k (ne_eqb q.low 0 z) (high_from h l p.high q.low (omega arith) e f)
 
--- the low end's high word is below its divisor where the high end's is
-low_below : (p q : Pair) (h l m n : ℕ) → p.low ≤ p.high → q.low ≤ q.high → l < 2 ^ 64 → h * 2 ^ 64 + l ≡ p.high * U + (q.low - 1) → h < q.low
-    → m * 2 ^ 64 + n ≡ p.low * U → m < q.high
-low_below p q h l m n o k f e g s = omega arith
-
 answered :
     (p q : Pair) (h l m n x y : ℕ) → p.low ≤ p.high → q.low ≤ q.high → (q.low ≡ zero → ⊥) → l < 2 ^ 64
     → h * 2 ^ 64 + l ≡ p.high * U + (q.low - 1) → h < q.low → m * 2 ^ 64 + n ≡ p.low * U
@@ -55,15 +50,8 @@ pub returns-then-c-eq0 : goal.returns-then-c-eq0
 returns-then-c-eq0 c = zero_divisor _ _ (omega arith) (omega arith) (omega arith)
 
 pub returns-then-c-n : goal.returns-then-c-n
-returns-then-c-n c = let r = c in
-    let e = r in
-    large _ _ _ _ e.if-b-a.false e.if-d-c.false r.if-c-eq0.false r.raised-n.ensures c.if-c-n.true
+returns-then-c-n c = large _ _ _ _ c.if-b-a.false c.if-d-c.false c.if-c-eq0.false c.raised-n.ensures c.if-c-n.true
 
 pub returns : goal.returns
-returns c = let m = c in
-    let k = m in
-    let r = k in
-    let e = r in
-    let a = e.args in
-    answered a.p a.q _ _ _ _ _ _ e.if-b-a.false e.if-d-c.false r.if-c-eq0.false k.struct_known-1.given.1.0.fits r.raised-n.ensures
-    m.if-c-n.false m.in_trillionths.ensures c.divided.ensures c.divided-2.ensures
+returns c = answered c.args.p c.args.q _ _ _ _ _ _ c.if-b-a.false c.if-d-c.false c.if-c-eq0.false (omega arith) c.raised-n.ensures
+    c.if-c-n.false c.in_trillionths.ensures c.divided.ensures c.divided-2.ensures

@@ -12,16 +12,6 @@ use Rattle.pairs.proofs.root.root_up_of.Goals as goal
 none : (b : ℕ) → b ≡ zero → 0 ≡ root_up (b * U)
 none b e = rw (e, zero-mul) (let k : root_up 0 ≤ 0 = root_up_bound 0 0 (omega arith) in omega arith)
 
--- b·U - 1, by its words
-less_high : (h l k m b : ℕ) → h * 2 ^ 64 + l + 1 ≡ k * 2 ^ 64 + m → k * 2 ^ 64 + m ≡ b * 1_000_000_000_000 → b < 2 ^ 64 → h < 2 ^ 40
-less_high h l k m b e f g = scaled_less h l b (e ∙ f) g
-  where
-    scaled_less : (h l b : ℕ) → h * 2 ^ 64 + l + 1 ≡ b * 1_000_000_000_000 → b < 2 ^ 64 → h < 2 ^ 40
-    scaled_less h l b e g = omega arith
-
-enough : (n b : ℕ) → (b ≡ zero → ⊥) → n + 1 ≡ b * 1_000_000_000_000 → 2 ^ 32 ≤ n
-enough n b z e = omega arith
-
 -- the root of a number of at most 104 bits has at most 52
 short : (n b : ℕ) → n + 1 ≡ b * 1_000_000_000_000 → b < 2 ^ 64 → root_down n + 1 < 2 ^ 64
 short n b e f =

@@ -6,5 +6,4 @@ use Rattle.pairs.proofs.root.Scaling.{zeros_ge, shifted_lt}
 use Rattle.pairs.proofs.root.start.Goals as goal
 
 pub returns : goal.returns
-returns c = let s = c in
-    shifted_lt c.near_root-2.result (count_leading_zeros 64 s.args.n.high) c.near_root-2.ensures.1 (zeros_ge s.args.n.high (omega arith) s.requires.0)
+returns c = shifted_lt c.near_root-2.result (count_leading_zeros 64 c.args.n.high) c.near_root-2.ensures.1 (zeros_ge c.args.n.high (omega arith) c.requires.0)

@@ -1,7 +1,7 @@
 -- `starting_number` meets its contract. The loop's invariant: the root is at most s, which is small and not 0. The measure is s.
 -- Assumes nothing.
 use Prim.Native.Nat.{ℕ, zero, suc, ◌+◌, ◌*◌, ◌-◌, ◌/◌, ◌^◌, ◌≤◌, ◌<◌}
-use native.Mathlib.Nat.{lt_trans, mul-le-mul, div-le_self}
+use native.Mathlib.Nat.{lt_trans, mul-le-mul}
 use native.Mathlib.Omega.{arith}
 use Rattle.pairs.proofs.root.Scaling.{quotient_lt}
 use Rattle.pairs.proofs.root.Newton.{above_root, falls, reached}
@@ -11,10 +11,6 @@ use Rattle.pairs.proofs.root.starting_number.Invariants.{Holds}
 -- the parabola's product is below 2^22, so the guess is below 2^14
 parabola_lt : (i : ℕ) → i < 1024 → i * (3968 - i) < 2 ^ 22
 parabola_lt i h = omega (arith, mul-le-mul {n₁ = i} {m₁ = 3968 - i} {n₂ = 1023} {m₂ = 3968} (omega arith) (omega arith))
-
--- the sum of a step stays within a word
-sum_fits : (n s : ℕ) → n < 2 ^ 26 → s < 2 ^ 15 → s + n / s < 2 ^ 64
-sum_fits n s f h = omega (arith, div-le_self n s)
 
 -- the first step, from a guess g
 first_short : (n g : ℕ) → n < 2 ^ 26 → 2304 ≤ g → g < 2 ^ 14 → (g + n / g) / 2 < 2 ^ 15

@@ -2,15 +2,12 @@
 -- Assumes nothing.
 use mathlib.Core.Path.{◌≡◌, sym, ◌∙◌}
 use Prim.Native.Nat.{ℕ, ◌+◌, ◌*◌, ◌^◌, ◌≤◌, ◌<◌}
-use mathlib.Core.Bool.{Bool, true, false}
+use mathlib.Core.Bool.{Bool, false}
 use lib.Dec.{ltb}
-use borrow.Author.Tests.{ltb-true, ltb-false}
+use borrow.Author.Tests.{ltb-false}
 use Rattle.pairs.proofs.root.Newton.{reached, stepped, first_clear, any_clear, clear_pos}
 use Rattle.pairs.proofs.root.whole_root.Goals as goal
 use Rattle.pairs.proofs.root.whole_root.Goals.{then-near-least, else-near-least}
-
-is_below : {a b m : ℕ} {t : Bool} → t ≡ ltb a b → b ≡ m → t ≡ true → a < m
-is_below {a} {b} e f g = rw f at (ltb-true a b (sym e ∙ g))
 
 not_below : {a b m : ℕ} {t : Bool} → t ≡ ltb a b → b ≡ m → t ≡ false → m ≤ a
 not_below {a} {b} e f g = rw f at (ltb-false a b (sym e ∙ g))
@@ -26,11 +23,9 @@ loop-n-init c =
     stepped _ _ _ _ c.requires.0 c.requires.1 (clear_pos _ _ clear.0) c.refined-s.ensures
 
 pub loop-n-preserved : goal.loop-n-preserved
-loop-n-preserved c = let s = c in
-    let i = c.loop-n.invariant in
-    stepped _ _ _ _ s.requires.0 s.requires.1 (clear_pos _ _ i.clear) c.refined-s-in-loop-n.ensures
+loop-n-preserved c = let i = c.loop-n.invariant in
+    stepped _ _ _ _ c.requires.0 c.requires.1 (clear_pos _ _ i.clear) c.refined-s-in-loop-n.ensures
 
 pub returns : goal.returns
 returns c = let i = c.loop-n.invariant in
-    let b = c in
-    reached _ _ (not_below b.below.ensures b.multiplied.ensures c.loop-n-test.false) i.root_below
+    reached _ _ (not_below c.below.ensures c.multiplied.ensures c.loop-n-test.false) i.root_below

@@ -28,20 +28,17 @@ at_least_2 (suc zero) v d l h = omega arith
 at_least_2 (suc (suc q)) v d l h = omega arith
 
 pub returns-then-taken-left : goal.returns-then-taken-left
-returns-then-taken-left c = let a = c.args in
-    omega (arith, taken a.rest a.next a.d, rest_lt a.rest a.d c.requires.0)
+returns-then-taken-left c = omega (arith, taken c.args.rest c.args.next c.args.d, rest_lt c.args.rest c.args.d c.requires.0)
 
 pub returns-then-short-d : goal.returns-then-short-d
-returns-then-short-d c = let a = c.args in
-    let q = a.rest / (a.d / B) in
-    omega (arith, taken a.rest a.next a.d, less_times q 1 a.d (at_least_1 q (a.d % B) (omega arith)))
+returns-then-short-d c = let q = c.args.rest / (c.args.d / B) in
+    omega (arith, taken c.args.rest c.args.next c.args.d, less_times q 1 c.args.d (at_least_1 q (c.args.d % B) (omega arith)))
 
 pub returns : goal.returns
-returns c = let a = c.args in
-    let q = a.rest / (a.d / B) in
+returns c = let q = c.args.rest / (c.args.d / B) in
     omega (
       arith,
-      taken a.rest a.next a.d,
-      taken_le a.rest a.d c.requires.0 c.requires.1,
-      less_times q 2 a.d (at_least_2 q (a.d % B) a.d (omega arith) (omega arith)),
+      taken c.args.rest c.args.next c.args.d,
+      taken_le c.args.rest c.args.d c.requires.0 c.requires.1,
+      less_times q 2 c.args.d (at_least_2 q (c.args.d % B) c.args.d (omega arith) (omega arith)),
     )

@@ -3,6 +3,7 @@
 use mathlib.Core.Path.{◌≡◌, refl, sym, ap, ◌∙◌}
 use mathlib.Core.Bool.{Bool, true, false, ◌||◌}
 use Prim.Native.Nat.{ℕ, ◌^◌, ◌<◌}
+use native.Mathlib.Omega.{arith}
 use lib.IntN.{ℤ, nat_abs}
 use lib.Signed.{mag}
 use mir.Syntax.{w32}
@@ -40,14 +41,14 @@ returns-then-outside-3 c =
 pub returns-then-outside-4 : goal.returns-then-outside-4
 returns-then-outside-4 c =
     let G = c.args.g in
-    let east = size G.east c.struct_told-1.given.1.1.1.0.1 c.magnitude.ensures c.outside-4.ensures in
+    let east = size G.east (omega arith) c.magnitude.ensures c.outside-4.ensures in
     tested _ false false false true _ (sym c.outside.ensures ∙ c.if-outside.false) (sym c.outside-2.ensures ∙ c.if-outside-2.false)
     (sym c.outside-3.ensures ∙ c.if-outside-3.false) (east ∙ c.if-outside-4.true) refl
 
 pub returns : goal.returns
 returns c =
     let G = c.args.g in
-    let east = size G.east c.struct_told-1.given.1.1.1.0.1 c.magnitude.ensures c.outside-4.ensures in
-    let north = size G.north c.struct_told-2-1.given.1.1.1.1.0.1 c.magnitude-2.ensures c.outside-5.ensures in
+    let east = size G.east (omega arith) c.magnitude.ensures c.outside-4.ensures in
+    let north = size G.north (omega arith) c.magnitude-2.ensures c.outside-5.ensures in
     tested _ false false false false _ (sym c.outside.ensures ∙ c.if-outside.false) (sym c.outside-2.ensures ∙ c.if-outside-2.false)
     (sym c.outside-3.ensures ∙ c.if-outside-3.false) (east ∙ c.if-outside-4.false) north

@@ -1,9 +1,9 @@
 -- `light` meets its contract: each refusal, and the pool in the first vacant place, from what the two searches find. Assumes nothing.
-use mathlib.Core.Path.{sym, ap, ◌∙◌}
+use mathlib.Core.Path.{◌≡◌, sym, ap, ◌∙◌}
 use native.Mathlib.Omega.{arith}
+use lib.ListN.{length}
 use Rattle.chain.specs.Flux.{Shown, shown}
 use Rattle.chain.proofs.Limits.{number_above_0}
-use Rattle.register.proofs.Rest.{as_long}
 use Rattle.register.proofs.Outcomes.{first_set, lit_outside, lit_burning, lit_full, lit_refused, lit_accepted, lit_is, burning_by, not_burning_by, space_by, full_by}
 use Rattle.register.proofs.calls.light.Goals as goal
 
@@ -12,20 +12,20 @@ returns-then-number_outside c = c.refused.ensures ∙ sym (lit_outside _ _ _ (sy
 
 pub returns-then-place_of-lt32 : goal.returns-then-place_of-lt32
 returns-then-place_of-lt32 c =
-    let long = as_long c.args.r c.well_formed.0.1.1.0.1.0.1 in
+    let long : length c.args.r.places ≡ 32 = omega arith in
     let o = sym c.number_outside.ensures ∙ c.if-number_outside.false in
     c.refused-then-place_of-lt32.ensures ∙ sym (lit_burning _ _ _ o (burning_by _ long _ _ c.place_of.ensures (omega (arith, c.if-place_of-lt32.true))))
 
 pub returns-then-at-ge32 : goal.returns-then-at-ge32
 returns-then-at-ge32 c =
-    let long = as_long c.args.r c.well_formed.0.1.1.0.1.0.1 in
+    let long : length c.args.r.places ≡ 32 = omega arith in
     let o = sym c.number_outside.ensures ∙ c.if-number_outside.false in
     let h = not_burning_by _ long _ _ c.place_of.ensures (omega (arith, c.if-place_of-lt32.false)) in
     c.refused-then-at-ge32.ensures ∙ sym (lit_full _ _ _ o h (full_by _ long _ c.place_of-at.ensures (omega (arith, c.if-at-ge32.true))))
 
 pub returns-in-Refused : goal.returns-in-Refused
 returns-in-Refused c =
-    let long = as_long c.args.r c.well_formed.0.1.1.0.1.0.1 in
+    let long : length c.args.r.places ≡ 32 = omega arith in
     let o = sym c.number_outside.ensures ∙ c.if-number_outside.false in
     let h = not_burning_by _ long _ _ c.place_of.ensures (omega (arith, c.if-place_of-lt32.false)) in
     let space = space_by _ long _ c.place_of-at.ensures (omega (arith, c.if-at-ge32.false)) in
@@ -34,7 +34,7 @@ returns-in-Refused c =
 
 pub returns-in-Is : goal.returns-in-Is
 returns-in-Is c =
-    let long = as_long c.args.r c.well_formed.0.1.1.0.1.0.1 in
+    let long : length c.args.r.places ≡ 32 = omega arith in
     let o = sym c.number_outside.ensures ∙ c.if-number_outside.false in
     let h = not_burning_by _ long _ _ c.place_of.ensures (omega (arith, c.if-place_of-lt32.false)) in
     let space = space_by _ long _ c.place_of-at.ensures (omega (arith, c.if-at-ge32.false)) in

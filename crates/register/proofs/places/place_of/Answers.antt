@@ -2,23 +2,23 @@
 use mathlib.Core.Path.{◌≡◌}
 use native.Mathlib.Omega.{arith}
 use lib.ListN.{length}
-use Rattle.register.proofs.Rest.{as_long, found, passed, not_found}
+use Rattle.register.proofs.Rest.{found, passed, not_found}
 use Rattle.register.proofs.places.place_of.Goals as goal
 
 pub returns-then-pool-number : goal.returns-then-pool-number
 returns-then-pool-number c =
     let l = c.loop-i in
-    let long : length c.args.r.places ≡ 32 = as_long c.args.r c.well_formed.0.1.1.0.1.0.1 in
+    let long : length c.args.r.places ≡ 32 = omega arith in
     found c.args.number c.args.r.places l.i (omega arith) c.if-pool-number.true l.invariant.1
 
 pub loop-i-preserved : goal.loop-i-preserved
 loop-i-preserved c =
     let l = c.loop-i in
-    let long : length c.args.r.places ≡ 32 = as_long c.args.r c.well_formed.0.1.1.0.1.0.1 in
+    let long : length c.args.r.places ≡ 32 = omega arith in
     (omega arith, passed c.args.number c.args.r.places l.i (omega arith) c.if-pool-number.false l.invariant.1)
 
 pub returns : goal.returns
 returns c =
     let l = c.loop-i in
-    let long : length c.args.r.places ≡ 32 = as_long c.args.r c.well_formed.0.1.1.0.1.0.1 in
+    let long : length c.args.r.places ≡ 32 = omega arith in
     not_found c.args.number c.args.r.places l.i (omega arith) l.invariant.1

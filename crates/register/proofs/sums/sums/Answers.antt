@@ -4,7 +4,7 @@ use Prim.Native.Nat.{ℕ, ◌<◌}
 use native.Mathlib.Omega.{arith}
 use lib.ListN.{length}
 use Rattle.register.specs.declared.sums.Totals.{Totals}
-use Rattle.register.proofs.Rest.{as_long, vacant_passed, burning_passed, whole}
+use Rattle.register.proofs.Rest.{vacant_passed, burning_passed, whole}
 use Rattle.register.proofs.sums.sums.Goals as goal
 use Rattle.register.proofs.sums.sums.Goals.{then-pool-ne0, else-pool-ne0}
 
@@ -15,7 +15,7 @@ pub loop-i-preserved : goal.loop-i-preserved
 loop-i-preserved c =
     let l = c.loop-i in
     let ps = c.args.r.places in
-    let there : l.i < length ps = omega (arith, as_long c.args.r c.well_formed.0.1.1.0.1.0.1) in
+    let there : l.i < length ps = omega arith in
     elim c.if-pool-ne0.branch [
       | then-pool-ne0 t ↦ (
         omega arith,
@@ -41,7 +41,7 @@ pub returns : goal.returns
 returns c =
     let l = c.loop-i in
     let ps = c.args.r.places in
-    let long : length ps ≡ l.i = omega (arith, as_long c.args.r c.well_formed.0.1.1.0.1.0.1) in
+    let long : length ps ≡ l.i = omega arith in
     totals
     (whole (λ p. 1) ps l.i l.burning long l.invariant.4)
     (whole (λ p. p.low) ps l.i l.lows long l.invariant.5)

@@ -14,13 +14,13 @@ put_field-after_index-requires c =
 pub put_field-after_state-requires : goal.put_field-after_state-requires
 put_field-after_state-requires c =
     let p = c.put_field-after_index in
-    omega (arith, (short c.args.i (shown_by c.args.e) (omega arith) c.struct_known-1.given.0.fits c.struct_known-1.given.1.0.fits c.struct_known-1.given.1.1.0.fits c.struct_known-1.given.1.1.1.0.fits), c.requires.1, p.ensures.after, p.auto.out)
+    omega (arith, short c.args.i (shown_by c.args.e) (omega arith) (omega arith) (omega arith) (omega arith) (omega arith), c.requires.1, p.ensures.after, p.auto.out)
 
 pub put_field-after_low-requires : goal.put_field-after_low-requires
 put_field-after_low-requires c =
     omega (
       arith,
-      (short c.args.i (shown_by c.args.e) (omega arith) c.struct_known-1.given.0.fits c.struct_known-1.given.1.0.fits c.struct_known-1.given.1.1.0.fits c.struct_known-1.given.1.1.1.0.fits),
+      short c.args.i (shown_by c.args.e) (omega arith) (omega arith) (omega arith) (omega arith) (omega arith),
       c.requires.1,
       c.put_field-after_index.ensures.after,
       c.put_field-after_index.auto.out,
@@ -32,7 +32,7 @@ pub put_field-after_high-requires : goal.put_field-after_high-requires
 put_field-after_high-requires c =
     omega (
       arith,
-      (short c.args.i (shown_by c.args.e) (omega arith) c.struct_known-1.given.0.fits c.struct_known-1.given.1.0.fits c.struct_known-1.given.1.1.0.fits c.struct_known-1.given.1.1.1.0.fits),
+      short c.args.i (shown_by c.args.e) (omega arith) (omega arith) (omega arith) (omega arith) (omega arith),
       c.requires.1,
       c.put_field-after_index.ensures.after,
       c.put_field-after_index.auto.out,
@@ -46,7 +46,7 @@ pub put_field-requires : goal.put_field-requires
 put_field-requires c =
     omega (
       arith,
-      (short c.args.i (shown_by c.args.e) (omega arith) c.struct_known-1.given.0.fits c.struct_known-1.given.1.0.fits c.struct_known-1.given.1.1.0.fits c.struct_known-1.given.1.1.1.0.fits),
+      short c.args.i (shown_by c.args.e) (omega arith) (omega arith) (omega arith) (omega arith) (omega arith),
       c.requires.1,
       c.put_field-after_index.ensures.after,
       c.put_field-after_index.auto.out,
@@ -60,5 +60,5 @@ put_field-requires c =
 
 pub returns : goal.returns
 returns c =
-    line_put c.args.out.now _ _ _ _ _ c.args.at _ _ _ _ _ c.args.i (shown_by c.args.e) ((short c.args.i (shown_by c.args.e) (omega arith) c.struct_known-1.given.0.fits c.struct_known-1.given.1.0.fits c.struct_known-1.given.1.1.0.fits c.struct_known-1.given.1.1.1.0.fits)) c.requires.1
+    line_put c.args.out.now _ _ _ _ _ c.args.at _ _ _ _ _ c.args.i (shown_by c.args.e) (short c.args.i (shown_by c.args.e) (omega arith) (omega arith) (omega arith) (omega arith) (omega arith)) c.requires.1
     c.put_field-after_index.ensures c.put_field-after_state.ensures c.put_field-after_low.ensures c.put_field-after_high.ensures c.put_field.ensures

@@ -16,7 +16,7 @@ bounds-out-last c =
 
 pub overflow_add-result : goal.overflow_add-result
 overflow_add-result c =
-    omega (arith, c.well_formed.0.0, c.requires, field_length c.args.n c.args.end, c.put_decimal-last.ensures.after)
+    omega (arith, c.requires, field_length c.args.n c.args.end, c.put_decimal-last.ensures.after)
 
 pub returns : goal.returns
 unfolding field
