@@ -1,8 +1,8 @@
--- This paper's number and pair for each case of the enum Answer: 0 and the pair, or the number of the refusal and [0, 0].
-use Rattle.std.specs.Prelude.{ℕ, zero, suc, Bool, true, false}
+-- This paper's number and pair of what an operation answers: 0 and the pair, or the number of the refusal and [0, 0].
+use Rattle.std.specs.Prelude.{ℕ, zero, suc, Bool, true, false, Result, Ok, Err}
 use Rattle.pairs.specs.declared.answer.Pair.{Pair}
-use Rattle.pairs.specs.declared.answer.Answer.{Answer}
-use Rattle.pairs.specs.declared.answer.Answer.TheVariants.{Is, Disordered, ZeroDivisor, OutOfSpan, TooLarge}
+use Rattle.pairs.specs.declared.answer.Refusal.{Refusal}
+use Rattle.pairs.specs.declared.answer.Refusal.TheVariants.{Disordered, ZeroDivisor, OutOfSpan, TooLarge}
 use Rattle.pairs.specs.Rounded.{ends}
 
 pub record Figures : Type 0 where
@@ -17,12 +17,15 @@ abbrev pub refused : ℕ → Figures
 refused n = record { number = n; pair = ends 0 0 }
 
 -- The numbers of "One pair operation".
-abbrev pub figures : Answer → Figures
-figures (Is p) = given p
-figures Disordered = refused 61
-figures ZeroDivisor = refused 62
-figures OutOfSpan = refused 63
-figures TooLarge = refused 64
+abbrev pub number_of : Refusal → ℕ
+number_of Disordered = 61
+number_of ZeroDivisor = 62
+number_of OutOfSpan = 63
+number_of TooLarge = 64
+
+abbrev pub figures : Result Pair Refusal → Figures
+figures (Ok p) = given p
+figures (Err why) = refused (number_of why)
 
 -- The refusal where the test holds, else what follows: "the first number that applies, in the order written, is given."
 -- Once for all that can be refused: a pair operation, a flux, a sheet.

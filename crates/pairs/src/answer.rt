@@ -1,18 +1,28 @@
-// A pair of trillionths, and what an operation on pairs answers.
+// A pair of trillionths, and why an operation on pairs gives none.
+ghost use Rattle.std.specs.Prelude.{◌≡◌};
+ghost use Rattle.pairs.specs.declared.answer.Refusal.{Refusal};
+ghost use Rattle.pairs.specs.Figures.{number_of};
 
 // A low and a high end, whole numbers of 10^-12.
-#[derive(Clone, Copy)]
+#[derive(Clone, Copy, PartialEq, Eq)]
 pub struct Pair {
     pub low: u64,
     pub high: u64,
 }
 
-// A pair, or why there is none: 61, 62, 63 and 64 of document 01, in this order.
-#[derive(Clone, Copy)]
-pub enum Answer {
-    Is(Pair),
-    Disordered,
-    ZeroDivisor,
-    OutOfSpan,
-    TooLarge,
+// The refusals of document 01, each with its number.
+#[derive(Clone, Copy, PartialEq, Eq)]
+pub enum Refusal {
+    Disordered = 61,
+    ZeroDivisor = 62,
+    OutOfSpan = 63,
+    TooLarge = 64,
+}
+
+impl From<Refusal> for u8 {
+    ghost from_gives = { λ why n. n ≡ number_of why };
+
+    fn from(why: Refusal) -> u8 {
+        why as u8
+    }
 }

@@ -6,7 +6,7 @@ ghost use Rattle.pairs.specs.Figures.{figures};
 ghost use Rattle.pairs.specs.Answers.{arc_of};
 ghost use Rattle.pairs.specs.Series as series;
 
-use super::answer::{Answer, Pair};
+use super::answer::{Pair, Refusal};
 use super::difference::less;
 use super::over::divided_up;
 use super::product::{ROUND_UP, UNIT, fraction};
@@ -43,14 +43,14 @@ fn alternating_arc(t: Pair) -> Pair
 }
 
 // arc(t), t at most 1.
-pub fn arc(t: Pair) -> Answer
+pub fn arc(t: Pair) -> Result<Pair, Refusal>
     ensures { figures result ≡ arc_of t }
 {
     if t.high < t.low {
-        return Answer::Disordered;
+        return Err(Refusal::Disordered);
     }
     if UNIT < t.high {
-        return Answer::OutOfSpan;
+        return Err(Refusal::OutOfSpan);
     }
-    Answer::Is(alternating_arc(t))
+    Ok(alternating_arc(t))
 }

@@ -6,7 +6,7 @@ ghost use Rattle.pairs.specs.Figures.{figures};
 ghost use Rattle.pairs.specs.Answers.{answers, exp_neg_of};
 ghost use Rattle.pairs.specs.Series as series;
 
-use super::answer::{Answer, Pair};
+use super::answer::{Pair, Refusal};
 use super::difference::less;
 use super::over::divided_up;
 use super::product::{ROUND_UP, UNIT, fraction, product};
@@ -41,28 +41,18 @@ fn alternating_exp(z: Pair) -> Pair
     }
 }
 
-// The square of an answer: a refusal stays.
-fn square(a: Answer) -> Answer
-    ensures { figures result ≡ answers.product (figures a) (figures a) }
-{
-    let Answer::Is(p) = a else {
-        return a;
-    };
-    product(p, p)
-}
-
 // exp(-y), y below 256.
-pub fn exp_neg(y: Pair) -> Answer
+pub fn exp_neg(y: Pair) -> Result<Pair, Refusal>
     ensures { figures result ≡ exp_neg_of y }
 {
     if y.high < y.low {
-        return Answer::Disordered;
+        return Err(Refusal::Disordered);
     }
     if 256_000_000_000_000 <= y.high {
-        return Answer::OutOfSpan;
+        return Err(Refusal::OutOfSpan);
     }
     if 20_000_000_000_000 <= y.low {
-        return Answer::Is(Pair {
+        return Ok(Pair {
             low: 0,
             high: 2_062,
         });
@@ -71,9 +61,9 @@ pub fn exp_neg(y: Pair) -> Answer
         low: y.low / 256,
         high: divided_up(y.high, 256),
     };
-    let mut power = Answer::Is(alternating_exp(z));
+    let mut power = alternating_exp(z);
     for _ in 0..8u64 {
-        power = square(power);
+        power = product(power, power)?;
     }
-    power
+    Ok(power)
 }

@@ -6,7 +6,7 @@ ghost use Rattle.pairs.specs.Figures.{figures};
 ghost use Rattle.pairs.specs.Answers.{fifth_root_of};
 ghost use Rattle.pairs.specs.Private.{fourth_power, Brackets};
 
-use super::answer::{Answer, Pair};
+use super::answer::{Pair, Refusal};
 use super::product::{ROUND_UP, rounded_product};
 use super::words::{Words, below, divided, in_trillionths, multiplied, one_less};
 
@@ -164,13 +164,13 @@ fn fifth_root_up_of(b: u64) -> u64
 }
 
 // [fifth root of a down, fifth root of b up].
-pub fn fifth_root(p: Pair) -> Answer
+pub fn fifth_root(p: Pair) -> Result<Pair, Refusal>
     ensures { figures result ≡ fifth_root_of p }
 {
     if p.high < p.low {
-        return Answer::Disordered;
+        return Err(Refusal::Disordered);
     }
-    Answer::Is(Pair {
+    Ok(Pair {
         low: fifth_root_down_of(p.low),
         high: fifth_root_up_of(p.high),
     })

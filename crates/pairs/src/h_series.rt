@@ -5,7 +5,7 @@ ghost use Rattle.pairs.specs.Figures.{figures};
 ghost use Rattle.pairs.specs.Answers.{h_series_of};
 ghost use Rattle.pairs.specs.Series as series;
 
-use super::answer::{Answer, Pair};
+use super::answer::{Pair, Refusal};
 use super::over::divided_up;
 use super::product::{ROUND_UP, fraction};
 
@@ -36,14 +36,14 @@ fn total_of_terms(t: Pair) -> Pair
 }
 
 // H(t), t at most 1/3.
-pub fn h_series(t: Pair) -> Answer
+pub fn h_series(t: Pair) -> Result<Pair, Refusal>
     ensures { figures result ≡ h_series_of t }
 {
     if t.high < t.low {
-        return Answer::Disordered;
+        return Err(Refusal::Disordered);
     }
     if A_THIRD < t.high {
-        return Answer::OutOfSpan;
+        return Err(Refusal::OutOfSpan);
     }
-    Answer::Is(total_of_terms(t))
+    Ok(total_of_terms(t))
 }

@@ -4,7 +4,7 @@ ghost use Rattle.pairs.specs.Rounded.{up};
 ghost use Rattle.pairs.specs.Figures.{figures};
 ghost use Rattle.pairs.specs.Answers.{over_of};
 
-use super::answer::{Answer, Pair};
+use super::answer::{Pair, Refusal};
 
 // b/n, rounded up.
 pub(crate) fn divided_up(b: u64, n: u64) -> u64
@@ -16,16 +16,16 @@ pub(crate) fn divided_up(b: u64, n: u64) -> u64
 }
 
 // [a/n down, b/n up].
-pub fn over(p: Pair, n: u64) -> Answer
+pub fn over(p: Pair, n: u64) -> Result<Pair, Refusal>
     ensures { figures result ≡ over_of p n }
 {
     if p.high < p.low {
-        return Answer::Disordered;
+        return Err(Refusal::Disordered);
     }
     if n == 0 {
-        return Answer::ZeroDivisor;
+        return Err(Refusal::ZeroDivisor);
     }
-    Answer::Is(Pair {
+    Ok(Pair {
         low: p.low / n,
         high: divided_up(p.high, n),
     })

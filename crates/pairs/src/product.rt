@@ -6,7 +6,7 @@ ghost use Rattle.pairs.specs.Figures.{figures};
 ghost use Rattle.pairs.specs.Answers.{product_of};
 ghost use Rattle.pairs.specs.Private.{carried};
 
-use super::answer::{Answer, Pair};
+use super::answer::{Pair, Refusal};
 
 pub(crate) const UNIT: u64 = 1_000_000_000_000;
 
@@ -60,7 +60,7 @@ fn product_fits(a: u64, c: u64) -> bool
 }
 
 // [ac/U down, bd/U up].
-pub fn product(p: Pair, q: Pair) -> Answer
+pub fn product(p: Pair, q: Pair) -> Result<Pair, Refusal>
     ensures { figures result ≡ product_of p q }
 {
     let a = p.low;
@@ -68,16 +68,16 @@ pub fn product(p: Pair, q: Pair) -> Answer
     let c = q.low;
     let d = q.high;
     if b < a {
-        return Answer::Disordered;
+        return Err(Refusal::Disordered);
     }
     if d < c {
-        return Answer::Disordered;
+        return Err(Refusal::Disordered);
     }
     if product_fits(b, d) {
-        return Answer::Is(Pair {
+        return Ok(Pair {
             low: rounded_product(a, c, 0),
             high: rounded_product(b, d, ROUND_UP),
         });
     }
-    Answer::TooLarge
+    Err(Refusal::TooLarge)
 }

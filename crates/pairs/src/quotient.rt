@@ -4,7 +4,7 @@ ghost use Rattle.pairs.specs.Rounded.{U};
 ghost use Rattle.pairs.specs.Figures.{figures};
 ghost use Rattle.pairs.specs.Answers.{quotient_of};
 
-use super::answer::{Answer, Pair};
+use super::answer::{Pair, Refusal};
 use super::words::{Words, divided, in_trillionths};
 
 // b·U + (c - 1), whose quotient by c, rounded down, is that of b·U rounded up.
@@ -27,7 +27,7 @@ fn raised(b: u64, c: u64) -> Words
 }
 
 // [aU/d down, bU/c up].
-pub fn quotient(p: Pair, q: Pair) -> Answer
+pub fn quotient(p: Pair, q: Pair) -> Result<Pair, Refusal>
     ensures { figures result ≡ quotient_of p q }
 {
     let a = p.low;
@@ -35,19 +35,19 @@ pub fn quotient(p: Pair, q: Pair) -> Answer
     let c = q.low;
     let d = q.high;
     if b < a {
-        return Answer::Disordered;
+        return Err(Refusal::Disordered);
     }
     if d < c {
-        return Answer::Disordered;
+        return Err(Refusal::Disordered);
     }
     if c == 0 {
-        return Answer::ZeroDivisor;
+        return Err(Refusal::ZeroDivisor);
     }
     let n = raised(b, c);
     if c <= n.high {
-        return Answer::TooLarge;
+        return Err(Refusal::TooLarge);
     }
-    Answer::Is(Pair {
+    Ok(Pair {
         low: divided(in_trillionths(a), d),
         high: divided(n, c),
     })

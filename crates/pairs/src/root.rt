@@ -6,7 +6,7 @@ ghost use Rattle.pairs.specs.Figures.{figures};
 ghost use Rattle.pairs.specs.Answers.{root_of};
 ghost use Rattle.std.specs.Int.Count.{count_leading_zeros};
 
-use super::answer::{Answer, Pair};
+use super::answer::{Pair, Refusal};
 use super::words::{Words, below, divided, in_trillionths, multiplied, one_less};
 
 // The starting number of i: the greatest s with s·s at most 65,536·i. A parabola guesses it, within 2 in 100, and Newton's steps run
@@ -124,16 +124,16 @@ fn high_start(a: u64, b: u64, near: u64) -> u64
 }
 
 // [root of aU down, root of bU up].
-pub fn root(p: Pair) -> Answer
+pub fn root(p: Pair) -> Result<Pair, Refusal>
     ensures { figures result ≡ root_of p }
 {
     if p.high < p.low {
-        return Answer::Disordered;
+        return Err(Refusal::Disordered);
     }
     let a = p.low;
     let b = p.high;
     let near = start_of(a);
-    Answer::Is(Pair {
+    Ok(Pair {
         low: root_down_of(a, near),
         high: root_up_of(b, high_start(a, b, near)),
     })

@@ -3,22 +3,22 @@ ghost use Rattle.std.specs.Prelude.{◌≡◌};
 ghost use Rattle.pairs.specs.Figures.{figures};
 ghost use Rattle.pairs.specs.Answers.{times_of};
 
-use super::answer::{Answer, Pair};
+use super::answer::{Pair, Refusal};
 
 // [a·n, b·n], exact.
-pub fn times(p: Pair, n: u64) -> Answer
+pub fn times(p: Pair, n: u64) -> Result<Pair, Refusal>
     ensures { figures result ≡ times_of p n }
 {
     if p.high < p.low {
-        return Answer::Disordered;
+        return Err(Refusal::Disordered);
     }
     if n == 0 {
-        return Answer::Is(Pair { low: 0, high: 0 });
+        return Ok(Pair { low: 0, high: 0 });
     }
     if u64::MAX / n < p.high {
-        return Answer::TooLarge;
+        return Err(Refusal::TooLarge);
     }
-    Answer::Is(Pair {
+    Ok(Pair {
         low: p.low * n,
         high: p.high * n,
     })

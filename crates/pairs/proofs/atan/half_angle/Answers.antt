@@ -1,28 +1,37 @@
--- `half_angle` meets its contract: the steps' contracts in a row, and a refusal stays.
+-- `half_angle` meets its contract: the steps in a row, and the first refusal stays.
 -- Assumes nothing.
-use mathlib.Core.Path.{◌≡◌, ap, ◌∙◌}
-use Rattle.pairs.specs.declared.answer.Pair.{Pair}
-use Rattle.pairs.specs.declared.answer.Answer.{Answer}
-use Rattle.pairs.specs.declared.answer.Answer.TheVariants.{Is}
-use Rattle.pairs.specs.Figures.{Figures, figures, given}
+use mathlib.Core.Path.{refl}
+use Rattle.pairs.specs.Rounded as R
+use Rattle.pairs.specs.Figures.{given}
 use Rattle.pairs.specs.Answers as A
-use Rattle.pairs.specs.Answers.{answers, product_of}
+use Rattle.pairs.specs.Answers.{answers}
 use Rattle.pairs.specs.Series.{one, half_angle}
-use Rattle.pairs.proofs.Lifted.{stays}
+use Rattle.pairs.proofs.Lifted.{handed_on}
 use Rattle.pairs.proofs.atan.half_angle.Goals as goal
 
-steps :
-    (a : Answer) (t : Pair) (s p r q : Figures) → a ≡ Is t → s ≡ product_of t t → p ≡ A.sum (one answers) s → r ≡ A.root p
-    → q ≡ A.sum (one answers) r → A.quotient (given t) q ≡ half_angle answers (figures a)
-unfolding half_angle A.product
-steps a t s p r q e f g h k =
-    rw e (ap (A.quotient (given t)) (k ∙ ap (A.sum (one answers)) (h ∙ ap A.root (g ∙ ap (A.sum (one answers)) f))))
+pub returns-in_err-product : goal.returns-in_err-product
+unfolding half_angle A.product A.sum A.root A.quotient A.constant A.fitting R.constant
+returns-in_err-product c =
+    handed_on (λ x. A.quotient (given c.args.t) (A.sum (one answers) (A.root (A.sum (one answers) x)))) (λ n. refl) _ _ _ c.from_residual.ensures.1 c.in_err-product.ensures
 
-pub returns-in_default : goal.returns-in_default
-unfolding half_angle A.quotient
-returns-in_default c = stays c.args.a _ c.in_default.not-Is
+pub returns-in_err-sum : goal.returns-in_err-sum
+unfolding half_angle A.product A.sum A.root A.quotient A.constant A.fitting R.constant
+returns-in_err-sum c =
+    rw (← c.in_ok-product.ensures)
+    (handed_on (λ x. A.quotient (given c.args.t) (A.sum (one answers) (A.root x))) (λ n. refl) _ _ _ c.from_residual-in_err-sum.ensures.1 c.in_err-sum.ensures)
+
+pub returns-in_err-hypotenuse : goal.returns-in_err-hypotenuse
+unfolding half_angle A.product A.sum A.root A.quotient A.constant A.fitting R.constant
+returns-in_err-hypotenuse c =
+    rw (← c.in_ok-product.ensures, ← c.in_ok-sum.ensures)
+    (handed_on (λ x. A.quotient (given c.args.t) (A.sum (one answers) x)) (λ n. refl) _ _ _ c.from_residual-in_err-hypotenuse.ensures.1 c.in_err-hypotenuse.ensures)
+
+pub returns-in_err-sum-2 : goal.returns-in_err-sum-2
+unfolding half_angle A.product A.sum A.root A.quotient A.constant A.fitting R.constant
+returns-in_err-sum-2 c =
+    rw (← c.in_ok-product.ensures, ← c.in_ok-sum.ensures, ← c.in_ok-hypotenuse.ensures)
+    (handed_on (λ x. A.quotient (given c.args.t) x) (λ n. refl) _ _ _ c.from_residual-in_err-sum-2.ensures.1 c.in_err-sum-2.ensures)
 
 pub returns : goal.returns
-returns c = c.quotient_by.ensures
-    ∙ steps _ _ _ _ _ _ c.in-Is.is c.product.ensures c.one_more.ensures
-    c.root_of.ensures c.one_more-2.ensures
+unfolding half_angle A.product A.sum A.root A.quotient A.constant A.fitting R.constant
+returns c = rw (← c.in_ok-product.ensures, ← c.in_ok-sum.ensures, ← c.in_ok-hypotenuse.ensures, ← c.in_ok-sum-2.ensures) c.quotient.ensures

@@ -1,15 +1,16 @@
 -- `exp_neg` meets its contract: 61, then 63, then the cold pair, then the series, of which no step is refused, and eight squares.
 -- The loop holds what is left of the squares. Assumes nothing.
 use mathlib.Core.Path.{◌≡◌, refl, sym, ap, subst, ◌∙◌}
-use Prim.Native.Nat.{ℕ, suc, ◌+◌, ◌*◌, ◌-◌, ◌/◌, ◌^◌, ◌≤◌, ◌<◌}
+use Prim.Native.Nat.{ℕ, zero, suc, ◌+◌, ◌*◌, ◌-◌, ◌/◌, ◌^◌, ◌≤◌, ◌<◌}
 use native.Mathlib.Omega.{arith}
 use Rattle.pairs.specs.declared.answer.Pair.{Pair}
 use Rattle.pairs.specs.Rounded as R
 use Rattle.pairs.specs.Rounded.{U, rounded, ends, up}
-use Rattle.pairs.specs.Figures.{Figures, given}
+use Rattle.pairs.specs.Figures.{Figures, given, refused}
 use Rattle.pairs.specs.Answers as A
 use Rattle.pairs.specs.Answers.{answers}
 use Rattle.pairs.specs.Series.{alternating, exp_term, squared, exp_series}
+use Rattle.pairs.proofs.Lifted.{handed_on}
 use Rattle.pairs.proofs.Turned.{over_turned}
 use Rattle.pairs.proofs.Terms.{Within, exp_given}
 use Rattle.pairs.proofs.Turns.{over_is}
@@ -57,14 +58,30 @@ returns-then-y-ge256000000000000 c = exp_63 _ (omega arith) (omega arith)
 pub returns-then-y-ge20000000000000 : goal.returns-then-y-ge20000000000000
 returns-then-y-ge20000000000000 c = exp_cold _ (omega arith) (omega arith) (omega arith)
 
-pub alternating_exp-requires : goal.alternating_exp-requires
-alternating_exp-requires c = let y = c.args.y in
+pub alternating_exp-power-requires : goal.alternating_exp-power-requires
+alternating_exp-power-requires c = let y = c.args.y in
     let w = within y _ (omega arith) (omega arith) c.divided_up.ensures in (w.ordered, w.high)
 
 pub loop-preserved : goal.loop-preserved
-loop-preserved c = (omega arith, again _ _ _ _ (omega arith) c.square-power.ensures c.loop.invariant.1)
+unfolding A.product
+loop-preserved c = (omega arith, again _ _ _ _ (omega arith) c.in_ok-power.ensures c.loop.invariant.1)
+
+-- a refusal stays through all squares that are left
+still_refused : (k n : ℕ) → squared answers k (refused (suc n)) ≡ refused (suc n)
+unfolding squared A.product
+still_refused zero n = refl
+still_refused (suc k) n = still_refused k n
+
+pub returns-in_err-power : goal.returns-in_err-power
+unfolding A.product
+returns-in_err-power c =
+    let k : ℕ = 8 - (c.loop.counter + 1) in
+    handed_on (squared answers k) (still_refused k) _ _ _ c.from_residual.ensures.1 c.in_err-power.ensures
+    ∙ again _ _ _ _ (omega arith) refl c.loop.invariant.1
+    ∙ all_squares _ _ (omega arith) (omega arith) c.divided_up.ensures _ c.alternating_exp-power.ensures
+    ∙ exp_below_20 _ (omega arith) (omega arith) (omega arith)
 
 pub returns : goal.returns
 returns c = finished _ _ _ (omega arith) c.loop.invariant.1
-    ∙ all_squares _ _ (omega arith) (omega arith) c.divided_up.ensures _ c.alternating_exp.ensures
+    ∙ all_squares _ _ (omega arith) (omega arith) c.divided_up.ensures _ c.alternating_exp-power.ensures
     ∙ exp_below_20 _ (omega arith) (omega arith) (omega arith)
