@@ -24,7 +24,8 @@ pub mod Level
 pub mod WorstFace
 pub mod FactorAlone
 pub mod Examples
-pub mod Given
 pub mod Constants
 pub mod PoolAlone
 pub mod Magnitude
+pub mod Operators
+pub mod InLimits

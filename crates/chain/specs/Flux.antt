@@ -1,12 +1,11 @@
 -- Document 01, "One flux" under "Turned back": what is shown for an enquiry, on all numbers.
-use Rattle.std.specs.Prelude.{ℕ, ◌*◌, Bool, true, false, ◌&&◌, not, List, [], ◌∷◌, ◌++◌, leb, ltb, eqb, ℤ, nat_abs}
+use Rattle.std.specs.Prelude.{ℕ, ◌*◌, Bool, true, false, ◌&&◌, not, List, [], ◌∷◌, ◌++◌, leb, ltb, eqb, ℤ, nat_abs, Result, Ok, Err}
 use Rattle.std.specs.Int.Signed.{non_neg}
 use Rattle.pairs.specs.Rounded.{U, down, up, rounded}
 use Rattle.chain.specs.declared.enquiry.Enquiry.{Enquiry}
 use Rattle.chain.specs.declared.enquiry.Turned.{Turned}
 use Rattle.chain.specs.declared.enquiry.Turned.TheVariants as turned
-use Rattle.chain.specs.declared.enquiry.Flux.{Flux}
-use Rattle.chain.specs.declared.enquiry.Flux.TheVariants.{Is, Refused}
+use Rattle.chain.specs.declared.enquiry.Printed.{Printed}
 use Rattle.chain.specs.Chain.{diameter_of, flame_height_of, radiant_flux}
 use Rattle.chain.specs.Tests.{Test, test, first_that_applies}
 
@@ -31,10 +30,10 @@ number_of turned.Height = 18
 number_of turned.Transmissivity = 19
 number_of turned.LowFlame = 16
 
--- This paper's number and values for each case of the enum Flux.
-abbrev pub shown : Flux → Shown
-shown (Is p) = record { state = 0; low = p.low; high = p.high; note = p.note }
-shown (Refused why) = refused (number_of why)
+-- This paper's number and values of what the flux answers.
+abbrev pub shown : Result Printed Turned → Shown
+shown (Ok p) = record { state = 0; low = p.low; high = p.high; note = p.note }
+shown (Err why) = refused (number_of why)
 
 -- "limits included"
 abbrev pub outside : ℕ → ℕ → ℕ → Bool

@@ -1,20 +1,30 @@
 -- Vocabulary of private functions' contracts. No public contract uses it.
 use Rattle.std.specs.Prelude.{◌≡◌, true, false, ◌&&◌, List, [], ◌∷◌, ℕ, ◌+◌, ◌*◌, ◌≤◌, eqb, leb}
 use Rattle.pairs.specs.declared.answer.Pair.{Pair}
-use Rattle.pairs.specs.declared.answer.Answer.{Answer}
 use Rattle.pairs.specs.Rounded.{U, down, up}
-use Rattle.pairs.specs.Figures.{Figures, figures}
+use Rattle.pairs.specs.Figures.{Figures}
 use Rattle.pairs.specs.Answers.{answers}
-use Rattle.pairs.specs.Series.{atan}
 use Rattle.chain.specs.declared.enquiry.Enquiry.{Enquiry}
 use Rattle.chain.specs.declared.enquiry.Printed.{Printed}
 use Rattle.chain.specs.declared.pool.PoolFlame.{PoolFlame}
-use Rattle.chain.specs.declared.factor.DistanceTerms.{DistanceTerms}
-use Rattle.chain.specs.declared.factor.Upright.{Upright}
-use Rattle.chain.specs.declared.factor.Seen.{Seen}
+use Rattle.chain.specs.declared.kinds.Method.{Method}
+use Rattle.chain.specs.declared.kinds.Method.TheVariants.{ByDiameter, ByHeat, Smoky}
+use Rattle.chain.specs.declared.kinds.Face.{Face}
+use Rattle.chain.specs.declared.kinds.Face.TheVariants.{Vertical, Horizontal, Tilted}
 use Rattle.chain.specs.Chain as chain
 use Rattle.chain.specs.Tests.{Test}
 use Rattle.chain.specs.Flux.{limits}
+
+-- The numbers of the methods and faces.
+abbrev pub method_number : Method → ℕ
+method_number ByDiameter = 1
+method_number ByHeat = 2
+method_number Smoky = 3
+
+abbrev pub face_number : Face → ℕ
+face_number Vertical = 1
+face_number Horizontal = 2
+face_number Tilted = 3
 
 -- What holds of each test of a list; and that none applies.
 abbrev pub EachTest : (Test → Type 0) → List Test → Type 0
@@ -30,8 +40,8 @@ Limited E = NoneApplies (limits E)
 
 -- L and E of an enquiry, by its method.
 pub record FlameOf (E : Enquiry) (f : PoolFlame) : Type 0 where
-  pub height : figures f.height ≡ chain.flame_height_of answers E
-  pub power : figures f.power ≡ chain.emissive_power_of answers E
+  pub height : f.height ≡ chain.flame_height_of answers E
+  pub power : f.power ≡ chain.emissive_power_of answers E
 
 -- Low, high and note of q by a method.
 pub record Prints (q : Pair) (method : ℕ) (p : Printed) : Type 0 where
@@ -46,23 +56,3 @@ pub record Spaced (e : Figures) : Type 0 where
   pub ordered : e.pair.low ≤ e.pair.high
   pub most : e.pair.high ≤ 400_000_000_000_000
   pub near : e.pair.high ≤ e.pair.low + 60_000
-
--- What every face needs of e: g·g, e·e, e·g and r.
-pub record DistanceTermsOf (s : DistanceTerms) : Type 0 where
-  pub gg : figures s.gg ≡ answers.product (chain.g answers (figures s.e)) (chain.g answers (figures s.e))
-  pub ee : figures s.ee ≡ answers.product (figures s.e) (figures s.e)
-  pub eg : figures s.eg ≡ answers.product (figures s.e) (chain.g answers (figures s.e))
-  pub r : figures s.r ≡ chain.r answers (figures s.e)
-
--- What the vertical face needs of it besides: x, x·x, atan(r) and root(e·g).
-pub record UprightOf (s : Upright) : Type 0 where
-  pub x : figures s.x ≡ chain.x answers (figures s.e)
-  pub xx : figures s.xx ≡ answers.product (chain.x answers (figures s.e)) (chain.x answers (figures s.e))
-  pub angle : figures s.angle ≡ atan answers (chain.r answers (figures s.e))
-  pub root : figures s.root ≡ answers.root (answers.product (figures s.e) (chain.g answers (figures s.e)))
-
--- What both faces need of y in l's place: y·y, u·v and A.
-pub record SeenOf (e : Answer) (s : Seen) : Type 0 where
-  pub yy : figures s.yy ≡ answers.product (figures s.y) (figures s.y)
-  pub product : figures s.product ≡ answers.product (chain.u answers (figures s.y) (figures e)) (chain.v answers (figures s.y) (figures e))
-  pub tilt : figures s.tilt ≡ chain.tilt answers (figures s.y) (figures e)

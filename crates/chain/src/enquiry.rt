@@ -1,5 +1,5 @@
 // What is asked of the chain, and what it answers.
-use pairs::answer::Pair;
+ghost use Rattle.std.specs.Prelude.{◌≡◌};
 
 // The whole numbers of one enquiry, in document 01's units.
 #[derive(Clone, Copy)]
@@ -32,35 +32,43 @@ pub struct Printed {
     pub note: u8,
 }
 
-// Why an enquiry is turned back: 11 to 15, 18, 19 and 16 of documents 01 and 02, in this order.
+// Why an enquiry is turned back, each with its number in documents 01 and 02, in the order of the tests.
 #[derive(Clone, Copy)]
 pub enum Turned {
-    Fuel,
-    Area,
-    Method,
-    Distance,
-    Face,
-    Height,
-    Transmissivity,
-    LowFlame,
+    Fuel = 11,
+    Area = 12,
+    Method = 13,
+    Distance = 14,
+    Face = 15,
+    Height = 18,
+    Transmissivity = 19,
+    LowFlame = 16,
 }
 
-#[derive(Clone, Copy)]
-pub enum Flux {
-    Is(Printed),
-    Refused(Turned),
+impl From<Turned> for u8 {
+    ghost use Rattle.chain.specs.Flux.{number_of};
+
+    ghost from_gives = { λ why n. n ≡ number_of why };
+
+    fn from(why: Turned) -> u8 {
+        why as u8
+    }
 }
 
-// Why a factor is refused: 21, 22 and 23 of document 01, in this order.
+// Why a factor is refused: the numbers of document 01, in their order.
 #[derive(Clone, Copy)]
 pub enum Outside {
-    Height,
-    Distance,
-    Face,
+    Height = 21,
+    Distance = 22,
+    Face = 23,
 }
 
-#[derive(Clone, Copy)]
-pub enum Factor {
-    Is(Pair),
-    Refused(Outside),
+impl From<Outside> for u8 {
+    ghost use Rattle.chain.specs.Factor.{number_of};
+
+    ghost from_gives = { λ why n. n ≡ number_of why };
+
+    fn from(why: Outside) -> u8 {
+        why as u8
+    }
 }

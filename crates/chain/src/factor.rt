@@ -1,297 +1,293 @@
 // Step 7: the configuration factor of a vertical, a horizontal or the tilted face, at any height of the target.
 // What depends on e alone is worked once for all factors of a target, and u, v and A once for both faces.
 ghost use Rattle.std.specs.Prelude.{◌≡◌, true, false};
-ghost use Rattle.pairs.specs.Rounded.{ends};
-ghost use Rattle.pairs.specs.Figures.{figures, given};
 ghost use Rattle.pairs.specs.Answers.{answers};
 ghost use Rattle.pairs.specs.Series.{atan};
 ghost use Rattle.chain.specs.Chain as chain;
 ghost use Rattle.chain.specs.Factor as alone;
-ghost use Rattle.chain.specs.Private.{Spaced, DistanceTermsOf, UprightOf, SeenOf};
+ghost use Rattle.chain.specs.Private.{Spaced, face_number};
 
 use super::allowed::outside;
-use super::enquiry::{Factor, Outside};
-use super::lifted::{
-    atan_of, difference_of, exact, pair_of, pi_answer, product_of, quotient_of, root_of, sum_of,
-};
-use pairs::answer::Answer;
+use super::answer::Answer;
+use super::enquiry::Outside;
+use super::kinds::Face;
+use pairs::answer::Pair;
 
-// x = 1+e.
-fn x_of(e: Answer) -> Answer
-    ensures { figures result ≡ chain.x answers (figures e) }
-{
-    sum_of(exact(1_000_000_000_000), e)
-}
-
-// g = e+2.
-fn g_of(e: Answer) -> Answer
-    ensures { figures result ≡ chain.g answers (figures e) }
-{
-    sum_of(e, exact(2_000_000_000_000))
-}
-
-// What every face needs of e: g·g, e·e, e·g and r = root(e/g).
+// What every face needs of e: g·g, e·e, e·g and r = root(e/g). The distance is as wide as the diameter allows.
 #[derive(Clone, Copy)]
-struct DistanceTerms {
+struct Distance {
     e: Answer,
     gg: Answer,
     ee: Answer,
     eg: Answer,
     r: Answer,
+    ghost spaced: { Spaced e },
+    ghost gg_is: { gg ≡ answers.product (chain.g answers e) (chain.g answers e) },
+    ghost ee_is: { ee ≡ answers.product e e },
+    ghost eg_is: { eg ≡ answers.product e (chain.g answers e) },
+    ghost r_is: { r ≡ chain.r answers e },
 }
 
-fn distance_terms(e: Answer) -> DistanceTerms
-    ensures { (result.e ≡ e) × DistanceTermsOf result }
-{
-    let g = g_of(e);
-    let gg = product_of(g, g);
-    let ee = product_of(e, e);
-    let eg = product_of(e, g);
-    let r = root_of(quotient_of(e, g));
-    DistanceTerms { e, gg, ee, eg, r }
-}
-
-// What the vertical face needs besides: x, x·x, atan(r) and root(e·g).
+// What the vertical face needs of e besides: x, x·x, atan(r) and root(e·g).
 #[derive(Clone, Copy)]
 struct Upright {
-    e: Answer,
+    distance: Distance,
     x: Answer,
     xx: Answer,
     angle: Answer,
     root: Answer,
+    ghost x_is: { x ≡ chain.x answers distance.e },
+    ghost xx_is: { xx ≡ answers.product (chain.x answers distance.e) (chain.x answers distance.e) },
+    ghost angle_is: { angle ≡ atan answers (chain.r answers distance.e) },
+    ghost root_is: { root ≡ answers.root (answers.product distance.e (chain.g answers distance.e)) },
 }
 
-fn upright_of(terms: DistanceTerms) -> Upright
-    requires { DistanceTermsOf terms }
-    ensures { (result.e ≡ terms.e) × UprightOf result }
-{
-    let e = terms.e;
-    let eg = terms.eg;
-    let r = terms.r;
-    let x = x_of(e);
-    let xx = product_of(x, x);
-    let angle = atan_of(r);
-    let root = root_of(eg);
-    Upright {
-        e,
-        x,
-        xx,
-        angle,
-        root,
-    }
-}
-
-// What the horizontal face needs besides: atan(root(g/e)).
-fn level_angle(e: Answer) -> Answer
-    ensures { figures result ≡ atan answers (answers.root (answers.quotient (chain.g answers (figures e)) (figures e))) }
-{
-    atan_of(root_of(quotient_of(g_of(e), e)))
+// What the horizontal face needs of e besides: atan(root(g/e)).
+#[derive(Clone, Copy)]
+struct Level {
+    distance: Distance,
+    angle: Answer,
+    ghost angle_is: { angle ≡ atan answers (answers.root (answers.quotient (chain.g answers distance.e) distance.e)) },
 }
 
 // What both faces need of y in l's place: y·y, u·v and A = atan((r·u)/v).
 #[derive(Clone, Copy)]
 struct Seen {
+    e: Answer,
     y: Answer,
     yy: Answer,
     product: Answer,
     tilt: Answer,
+    ghost yy_is: { yy ≡ answers.product y y },
+    ghost product_is: { product ≡ answers.product (chain.u answers y e) (chain.v answers y e) },
+    ghost tilt_is: { tilt ≡ chain.tilt answers y e },
 }
 
-fn seen_at(y: Answer, terms: DistanceTerms) -> Seen
-    requires { DistanceTermsOf terms }
-    ensures { (result.y ≡ y) × SeenOf terms.e result }
+// g = e+2.
+#[tactic(auto, unfolding(crate::specs::Chain::g, pairs::specs::Answers::constant, pairs::specs::Answers::fitting, pairs::specs::Rounded::constant))]
+fn g_of(e: Answer) -> Answer
+    ensures { result ≡ chain.g answers e }
 {
-    let gg = terms.gg;
-    let ee = terms.ee;
-    let r = terms.r;
-    let yy = product_of(y, y);
-    let u = root_of(sum_of(yy, gg));
-    let v = root_of(sum_of(yy, ee));
-    let product = product_of(u, v);
-    let tilt = atan_of(quotient_of(product_of(r, u), v));
-    Seen {
-        y,
-        yy,
-        product,
-        tilt,
+    e + Answer::exact(2_000_000_000_000)
+}
+
+impl Distance {
+    #[tactic(auto, unfolding(crate::specs::Chain::r))]
+    fn new(e: Answer) -> Distance
+        requires { Spaced e }
+        ensures { result.e ≡ e }
+    {
+        let g = g_of(e);
+        Distance {
+            e,
+            gg: g * g,
+            ee: e * e,
+            eg: e * g,
+            r: (e / g).root(),
+        }
+    }
+
+    #[tactic(auto, unfolding(crate::specs::Chain::x, pairs::specs::Answers::constant, pairs::specs::Answers::fitting, pairs::specs::Rounded::constant))]
+    fn upright(&self) -> Upright
+        ensures { result.distance ≡ self.now }
+    {
+        let x = Answer::exact(1_000_000_000_000) + self.e;
+        Upright {
+            distance: *self,
+            x,
+            xx: x * x,
+            angle: self.r.atan(),
+            root: self.eg.root(),
+        }
+    }
+
+    fn level(&self) -> Level
+        ensures { result.distance ≡ self.now }
+    {
+        Level {
+            distance: *self,
+            angle: (g_of(self.e) / self.e).root().atan(),
+        }
+    }
+
+    #[tactic(auto, unfolding(crate::specs::Chain::u, crate::specs::Chain::v, crate::specs::Chain::tilt))]
+    fn seen_at(&self, y: Answer) -> Seen
+        ensures { (result.e ≡ self.now.e) × (result.y ≡ y) }
+    {
+        let yy = y * y;
+        let u = (yy + self.gg).root();
+        let v = (yy + self.ee).root();
+        Seen {
+            e: self.e,
+            y,
+            yy,
+            product: u * v,
+            tilt: (self.r * u / v).atan(),
+        }
     }
 }
 
-// atan(y/root(e·g))/x.
-fn height_angle(y: Answer, up: Upright) -> Answer
-    requires { UprightOf up }
-    ensures { figures result ≡ chain.height_angle answers (figures y) (figures up.e) }
-{
-    let x = up.x;
-    let root = up.root;
-    quotient_of(atan_of(quotient_of(y, root)), x)
+impl Upright {
+    // atan(y/root(e·g))/x.
+    #[tactic(auto, unfolding(crate::specs::Chain::height_angle))]
+    fn height_angle(&self, y: Answer) -> Answer
+        ensures { result ≡ chain.height_angle answers y self.now.distance.e }
+    {
+        (y / self.root).atan() / self.x
+    }
+
+    // (y·y+x·x+1)/(u·v).
+    #[tactic(auto, unfolding(crate::specs::Chain::vertical_ratio, pairs::specs::Answers::constant, pairs::specs::Answers::fitting, pairs::specs::Rounded::constant))]
+    fn ratio(&self, seen: &Seen) -> Answer
+        requires { seen.now.e ≡ self.now.distance.e }
+        ensures { result ≡ chain.vertical_ratio answers seen.now.y self.now.distance.e }
+    {
+        (seen.yy + self.xx + Answer::exact(1_000_000_000_000)) / seen.product
+    }
+
+    // The vertical face (B.2).
+    #[tactic(auto, unfolding(crate::specs::Chain::vertical))]
+    fn vertical(&self, seen: &Seen) -> Answer
+        requires { seen.now.e ≡ self.now.distance.e }
+        ensures { result ≡ chain.vertical answers seen.now.y self.now.distance.e }
+    {
+        let slope = seen.y / self.x;
+        let facing = self.height_angle(seen.y) + slope * self.ratio(seen) * seen.tilt;
+        (facing - slope * self.angle) / Answer::pi()
+    }
+
+    // The vertical face at y: that of [0, 0] is [0, 0] and is not worked.
+    #[tactic(auto, using(crate::proofs::Level::vertical_answer_of_0))]
+    fn vertical_at(&self, y: Answer) -> Answer
+        ensures { result ≡ chain.vertical answers y self.now.distance.e }
+    {
+        if y.is_zero() {
+            return y;
+        }
+        self.vertical(&self.distance.seen_at(y))
+    }
+
+    // f(h) + f(l-h) - f(h-l), from f(l-h).
+    #[tactic(auto, unfolding(crate::specs::Chain::vertical_above))]
+    fn vertical_above(&self, between: Answer, l: Answer, h: Answer) -> Answer
+        requires { between ≡ chain.vertical answers (answers.difference l h) self.now.distance.e }
+        ensures { result ≡ chain.vertical_above answers l h self.now.distance.e }
+    {
+        self.vertical_at(h) + between - self.vertical_at(h - l)
+    }
+
+    // f(top) - f(base).
+    fn between(&self, top: &Seen, base: &Seen) -> Answer
+        requires { (top.now.e ≡ self.now.distance.e) × (base.now.e ≡ self.now.distance.e) }
+        ensures { result ≡ answers.difference (chain.vertical answers top.now.y self.now.distance.e) (chain.vertical answers base.now.y self.now.distance.e) }
+    {
+        self.vertical(top) - self.vertical(base)
+    }
 }
 
-// (y·y+x·x+1)/(u·v).
-fn vertical_ratio(seen: Seen, up: Upright) -> Answer
-    requires { UprightOf up × SeenOf up.e seen }
-    ensures { figures result ≡ chain.vertical_ratio answers (figures seen.y) (figures up.e) }
-{
-    let yy = seen.yy;
-    let product = seen.product;
-    let xx = up.xx;
-    quotient_of(sum_of(sum_of(yy, xx), exact(1_000_000_000_000)), product)
-}
+impl Level {
+    // The horizontal face, looking up (B.4).
+    #[tactic(auto, unfolding(crate::specs::Chain::horizontal, crate::specs::Chain::horizontal_ratio))]
+    fn horizontal(&self, seen: &Seen) -> Answer
+        requires { seen.now.e ≡ self.now.distance.e }
+        ensures { result ≡ chain.horizontal answers seen.now.y self.now.distance.e }
+    {
+        let ratio = (seen.yy + self.distance.eg) / seen.product;
+        (self.angle - ratio * seen.tilt) / Answer::pi()
+    }
 
-// The vertical face (B.2).
-fn vertical(seen: Seen, up: Upright) -> Answer
-    requires { UprightOf up × SeenOf up.e seen }
-    ensures { figures result ≡ chain.vertical answers (figures seen.y) (figures up.e) }
-{
-    let y = seen.y;
-    let tilt = seen.tilt;
-    let x = up.x;
-    let angle = up.angle;
-    let slope = quotient_of(y, x);
-    let facing = sum_of(
-        height_angle(y, up),
-        product_of(product_of(slope, vertical_ratio(seen, up)), tilt),
-    );
-    quotient_of(difference_of(facing, product_of(slope, angle)), pi_answer())
-}
-
-// The horizontal face, looking up (B.4).
-fn horizontal(seen: Seen, terms: DistanceTerms, angle: Answer) -> Answer
-    requires distance_terms_of { DistanceTermsOf terms × SeenOf terms.e seen }
-    requires angle_value { figures angle ≡ atan answers (answers.root (answers.quotient (chain.g answers (figures terms.e)) (figures terms.e))) }
-    ensures { figures result ≡ chain.horizontal answers (figures seen.y) (figures terms.e) }
-{
-    let yy = seen.yy;
-    let product = seen.product;
-    let tilt = seen.tilt;
-    let eg = terms.eg;
-    let ratio = quotient_of(sum_of(yy, eg), product);
-    quotient_of(difference_of(angle, product_of(ratio, tilt)), pi_answer())
+    // f(top) - f(base).
+    fn between(&self, top: &Seen, base: &Seen) -> Answer
+        requires { (top.now.e ≡ self.now.distance.e) × (base.now.e ≡ self.now.distance.e) }
+        ensures { result ≡ answers.difference (chain.horizontal answers top.now.y self.now.distance.e) (chain.horizontal answers base.now.y self.now.distance.e) }
+    {
+        self.horizontal(top) - self.horizontal(base)
+    }
 }
 
 // The tilted face: root(Fv·Fv + Fh·Fh). It is the most exposed one of a target at or below the base; above it Fh looks up only.
+#[tactic(auto, unfolding(crate::specs::Chain::most_exposed))]
 fn most_exposed(upright: Answer, level: Answer) -> Answer
-    ensures { figures result ≡ chain.most_exposed answers (figures upright) (figures level) }
+    ensures { result ≡ chain.most_exposed answers upright level }
 {
-    root_of(sum_of(product_of(upright, upright), product_of(level, level)))
+    (upright * upright + level * level).root()
 }
 
-// Whether an answer is the pair [0, 0].
-fn is_zero(a: Answer) -> bool
-    ensures { (result ≡ true → figures a ≡ given (ends 0 0)) × (figures a ≡ given (ends 0 0) → result ≡ true) }
-{
-    let Answer::Is(p) = a else {
-        return false;
-    };
-    if p.low == 0 {
-        return p.high == 0;
+impl Distance {
+    // A target from the base up.
+    #[tactic(auto, unfolding(crate::specs::Chain::factor_at, crate::specs::Chain::by_face, crate::specs::Chain::horizontal_above))]
+    fn factor_above(&self, face: Face, l: Answer, h: Answer) -> Answer
+        ensures { result ≡ chain.factor_at answers true (face_number face) l h self.now.e }
+    {
+        let between = l - h;
+        match face {
+            Face::Vertical => {
+                let up = self.upright();
+                up.vertical_above(up.vertical_at(between), l, h)
+            }
+            Face::Horizontal => self.level().horizontal(&self.seen_at(between)),
+            Face::Tilted => {
+                let seen = self.seen_at(between);
+                let up = self.upright();
+                most_exposed(
+                    up.vertical_above(up.vertical(&seen), l, h),
+                    self.level().horizontal(&seen),
+                )
+            }
+        }
     }
-    false
-}
 
-// The vertical face at y: that of [0, 0] is [0, 0] and is not worked.
-fn vertical_at(y: Answer, terms: DistanceTerms, up: Upright) -> Answer
-    requires distance_terms_of { DistanceTermsOf terms × UprightOf up }
-    requires same_distance { up.e ≡ terms.e }
-    requires spaced { Spaced (figures terms.e) }
-    ensures { figures result ≡ chain.vertical answers (figures y) (figures terms.e) }
-{
-    if is_zero(y) {
-        return exact(0);
+    // A target below the base: f(l+h) - f(h).
+    #[tactic(auto, unfolding(crate::specs::Chain::factor_at, crate::specs::Chain::by_face, crate::specs::Chain::vertical_below, crate::specs::Chain::horizontal_below))]
+    fn factor_below(&self, face: Face, l: Answer, h: Answer) -> Answer
+        ensures { result ≡ chain.factor_at answers false (face_number face) l h self.now.e }
+    {
+        let top = self.seen_at(l + h);
+        let base = self.seen_at(h);
+        match face {
+            Face::Vertical => self.upright().between(&top, &base),
+            Face::Horizontal => self.level().between(&top, &base),
+            Face::Tilted => most_exposed(
+                self.upright().between(&top, &base),
+                self.level().between(&top, &base),
+            ),
+        }
     }
-    vertical(seen_at(y, terms), up)
-}
-
-// f(h) + f(l-h) - f(h-l), from f(l-h).
-fn vertical_above(
-    between: Answer,
-    l: Answer,
-    h: Answer,
-    terms: DistanceTerms,
-    up: Upright,
-) -> Answer
-    requires distance_terms_of { DistanceTermsOf terms × UprightOf up }
-    requires same_distance { up.e ≡ terms.e }
-    requires spaced { Spaced (figures terms.e) }
-    requires between_value { figures between ≡ chain.vertical answers (answers.difference (figures l) (figures h)) (figures terms.e) }
-    ensures { figures result ≡ chain.vertical_above answers (figures l) (figures h) (figures terms.e) }
-{
-    difference_of(
-        sum_of(vertical_at(h, terms, up), between),
-        vertical_at(difference_of(h, l), terms, up),
-    )
-}
-
-// A target from the base up.
-fn factor_above(face: u8, l: Answer, h: Answer, terms: DistanceTerms) -> Answer
-    requires distance_terms_of { DistanceTermsOf terms }
-    requires spaced { Spaced (figures terms.e) }
-    ensures { figures result ≡ chain.factor_at answers true face (figures l) (figures h) (figures terms.e) }
-{
-    let between = difference_of(l, h);
-    if face == 1 {
-        let up = upright_of(terms);
-        return vertical_above(vertical_at(between, terms, up), l, h, terms, up);
-    }
-    let seen = seen_at(between, terms);
-    let e = terms.e;
-    let level = horizontal(seen, terms, level_angle(e));
-    if face == 2 {
-        return level;
-    }
-    let up = upright_of(terms);
-    most_exposed(vertical_above(vertical(seen, up), l, h, terms, up), level)
-}
-
-// A target below the base: f(l+h) - f(h).
-fn factor_below(face: u8, l: Answer, h: Answer, terms: DistanceTerms) -> Answer
-    requires { DistanceTermsOf terms }
-    ensures { figures result ≡ chain.factor_at answers false face (figures l) (figures h) (figures terms.e) }
-{
-    let top = seen_at(sum_of(l, h), terms);
-    let base = seen_at(h, terms);
-    if face == 1 {
-        let up = upright_of(terms);
-        return difference_of(vertical(top, up), vertical(base, up));
-    }
-    let e = terms.e;
-    let angle = level_angle(e);
-    let level = difference_of(
-        horizontal(top, terms, angle),
-        horizontal(base, terms, angle),
-    );
-    if face == 2 {
-        return level;
-    }
-    let up = upright_of(terms);
-    most_exposed(difference_of(vertical(top, up), vertical(base, up)), level)
 }
 
 // The factor of a face, from the base up or below it.
-pub(crate) fn factor_at(above: bool, face: u8, l: Answer, h: Answer, e: Answer) -> Answer
-    requires { Spaced (figures e) }
-    ensures { figures result ≡ chain.factor_at answers above face (figures l) (figures h) (figures e) }
+pub(crate) fn factor_at(above: bool, face: Face, l: Answer, h: Answer, e: Answer) -> Answer
+    requires { Spaced e }
+    ensures { result ≡ chain.factor_at answers above (face_number face) l h e }
 {
-    let terms = distance_terms(e);
+    let distance = Distance::new(e);
     if above {
-        return factor_above(face, l, h, terms);
+        distance.factor_above(face, l, h)
+    } else {
+        distance.factor_below(face, l, h)
     }
-    factor_below(face, l, h, terms)
 }
 
 // The factor from l and e in trillionths, with limits of its own: that of a target level with the base.
-pub fn factor(l: u64, e: u64, face: u8) -> Factor
+#[tactic(auto, unfolding(crate::specs::Factor::factor_of, crate::specs::Factor::factor_tests))]
+pub fn factor(l: u64, e: u64, face: u8) -> Result<Pair, Outside>
     ensures { alone.figures result ≡ alone.factor_of l e face }
 {
     if outside(l, 0, 40_000_000_000_000) {
-        return Factor::Refused(Outside::Height);
+        return Err(Outside::Height);
     }
     if outside(e, 40_000_000_000, 400_000_000_000_000) {
-        return Factor::Refused(Outside::Distance);
+        return Err(Outside::Distance);
     }
-    if outside(face as u64, 1, 3) {
-        return Factor::Refused(Outside::Face);
-    }
-    let p = pair_of(factor_at(true, face, exact(l), exact(0), exact(e)));
-    Factor::Is(p)
+    let Ok(face) = Face::try_from(face) else {
+        return Err(Outside::Face);
+    };
+    let factor = factor_at(
+        true,
+        face,
+        Answer::exact(l),
+        Answer::exact(0),
+        Answer::exact(e),
+    );
+    Ok(factor.pair())
 }

@@ -3,10 +3,10 @@
 #![tactic(auto)]
 
 mod allowed;
-mod elevation;
+mod answer;
 pub mod enquiry;
 pub mod factor;
 pub mod flux;
-mod lifted;
+mod kinds;
 mod pool;
 mod smoky;

@@ -2,7 +2,7 @@
 use mathlib.Core.Path.{◌≡◌, refl, sym, ap}
 use Prim.Native.Nat.{ℕ, suc}
 use Rattle.pairs.specs.declared.answer.Pair.{Pair}
-use Rattle.std.specs.Prelude.{Result, Ok, Err, IsErrAnd}
+use Rattle.std.specs.Prelude.{Result, Ok, Err, IsErrAnd, true, false, eqb}
 use Rattle.pairs.specs.declared.answer.Refusal.{Refusal}
 use Rattle.pairs.specs.declared.answer.Refusal.TheVariants.{Disordered, ZeroDivisor, OutOfSpan, TooLarge}
 use Rattle.pairs.specs.Rounded.{ends}
@@ -69,3 +69,24 @@ over_handed a n = handed (λ p. over_of p n) a
 pub quotient_given : (p q : Pair) → quotient (given p) (given q) ≡ quotient_of p q
 unfolding quotient
 quotient_given p q = refl
+
+-- An answer from its number and pair.
+abbrev pub result_of : Figures → Result Pair Refusal
+result_of x =
+    elim (eqb x.number 0) [
+      | true ↦ Ok x.pair
+      | false ↦ elim (eqb x.number 61) [
+        | true ↦ Err Disordered
+        | false ↦ elim (eqb x.number 62) [
+          | true ↦ Err ZeroDivisor
+          | false ↦ elim (eqb x.number 63) [ true ↦ Err OutOfSpan | false ↦ Err TooLarge ]
+        ]
+      ]
+    ]
+
+pub result_of_figures : (a : Result Pair Refusal) → result_of (figures a) ≡ a
+result_of_figures (Ok p) = refl
+result_of_figures (Err Disordered) = refl
+result_of_figures (Err ZeroDivisor) = refl
+result_of_figures (Err OutOfSpan) = refl
+result_of_figures (Err TooLarge) = refl

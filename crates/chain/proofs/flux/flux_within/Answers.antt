@@ -15,7 +15,8 @@ use Rattle.chain.specs.Tests.{first_that_applies}
 use Rattle.chain.specs.Flux.{Shown, refused, flame_too_low, low_of, high_of, note_of, accepted, limits, flame_test, flux_of}
 use Rattle.chain.specs.Private.{Limited, Prints}
 use Rattle.chain.proofs.FirstThatApplies.{told, in_two, none_told}
-use Rattle.chain.proofs.Limits.{numbers, tested, shown}
+use Rattle.chain.proofs.Limits.{tested, shown}
+use Rattle.chain.proofs.InLimits.{limited_of}
 use Rattle.chain.proofs.Unrefused.{unrefused}
 use Rattle.chain.proofs.flux.flux_within.Goals as goal
 
@@ -56,25 +57,25 @@ too_low_is E w D L d l =
     let u = unrefused E w in
     ap₂ (λ (x y : Figures). ltb (4 * x.pair.low) y.pair.high) (sym (l ∙ u.flame_height_given)) (sym (d ∙ u.diameter_given))
 
-pub diameter-across-requires : goal.diameter-across-requires
-diameter-across-requires c = (numbers _ c.requires).area.high
-
-pub flame-burning-requires-clause-diameter_value : goal.flame-burning-requires-clause-diameter_value
-flame-burning-requires-clause-diameter_value c = diameter_is _ _ c.diameter-across.ensures
+pub flame-burning-requires : goal.flame-burning-requires
+flame-burning-requires c = diameter_is _ _ c.diameter-across.ensures
 
 pub returns-then-too_low : goal.returns-then-too_low
-returns-then-too_low c = let w = c.requires in
+returns-then-too_low c =
+    let w = limited_of c.args.a in
     let test = too_low_is _ w _ _ (diameter_is _ _ c.diameter-across.ensures) c.flame-burning.ensures.height in
-    low_flame _ w (test ∙ sym c.too_low.ensures ∙ c.if-too_low.true)
+    low_flame _ w (test ∙ sym c.if-too_low.ensures)
 
 pub radiant_flux-requires-clause-diameter_value : goal.radiant_flux-requires-clause-diameter_value
 radiant_flux-requires-clause-diameter_value c = diameter_is _ _ c.diameter-across.ensures
 
 pub printed-requires : goal.printed-requires
-printed-requires c = let w = c.requires in
-    small _ w _ (worked _ w _ _ c.radiant_flux.ensures c.pair_of-q.ensures)
+printed-requires c =
+    let w = limited_of c.args.a in
+    small _ w _ (worked _ w _ _ c.radiant_flux.ensures c.pair-q.ensures)
 
 pub returns : goal.returns
-returns c = let w = c.requires in
+returns c =
+    let w = limited_of c.args.a in
     let test = too_low_is _ w _ _ (diameter_is _ _ c.diameter-across.ensures) c.flame-burning.ensures.height in
-    as_shown _ w _ _ (test ∙ sym c.too_low.ensures ∙ c.if-too_low.false) (worked _ w _ _ c.radiant_flux.ensures c.pair_of-q.ensures) c.printed.ensures
+    as_shown _ w _ _ (test ∙ sym c.if-too_low.ensures) (worked _ w _ _ c.radiant_flux.ensures c.pair-q.ensures) (rw c.args.a.method_is at c.printed.ensures)

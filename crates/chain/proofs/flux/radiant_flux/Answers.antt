@@ -4,10 +4,8 @@ use mathlib.Core.Path.{◌≡◌, refl, sym, ap, ap₂, subst, ◌∙◌}
 use mathlib.Core.Bool.{Bool}
 use Prim.Native.Nat.{ℕ, ◌*◌, ◌≤◌}
 use native.Mathlib.Omega.{arith}
+use Rattle.std.proofs.Common.{rules}
 use lib.IntN.{nat_abs}
-use lib.Signed.{non_neg}
-use mir.Syntax.{w32}
-use mir.ValLaws.{to_z-of_z}
 use Rattle.pairs.specs.Rounded.{ends}
 use Rattle.pairs.specs.Figures.{Figures, given}
 use Rattle.pairs.specs.Answers as A
@@ -15,15 +13,15 @@ use Rattle.chain.specs.Chain as chain
 use Rattle.chain.specs.declared.enquiry.Enquiry.{Enquiry}
 use Rattle.chain.specs.Private.{Limited, Spaced}
 use Rattle.chain.proofs.Limits.{numbers}
+use Rattle.chain.proofs.InLimits.{limited_of}
 use Rattle.chain.proofs.Constants.{thousandths}
 use Rattle.chain.proofs.Unrefused.{distance_spaced}
-use borrow.Author.Rules.{sfits_of}
 use Rattle.chain.proofs.flux.radiant_flux.Goals as goal
 
 same_factor :
-    (face : ℕ) {a a' : Bool} {l l' h h' e e' : Figures} → a ≡ a' → l ≡ l' → h ≡ h' → e ≡ e'
-    → chain.factor_at A.answers a face l h e ≡ chain.factor_at A.answers a' face l' h' e'
-same_factor face a l h e = λ i. chain.factor_at A.answers (a i) face (l i) (h i) (e i)
+    {face face' : ℕ} {a a' : Bool} {l l' h h' e e' : Figures} → face ≡ face' → a ≡ a' → l ≡ l' → h ≡ h' → e ≡ e'
+    → chain.factor_at A.answers a face l h e ≡ chain.factor_at A.answers a' face' l' h' e'
+same_factor f a l h e = λ i. chain.factor_at A.answers (a i) (f i) (l i) (h i) (e i)
 
 radius_is : {R D D' : Figures} → R ≡ A.over D 2 → D ≡ D' → R ≡ chain.radius A.answers D'
 unfolding chain.radius
@@ -45,25 +43,22 @@ module _ (E : Enquiry) (w : Limited E) {k : ℕ} {q x R : Figures} where
   unfolding chain.relative_elevation_of
   elevation_is e = in_radii _ _ e (let h = (numbers E w).height in omega arith)
 
-pub factor_at-requires : goal.factor_at-requires
-factor_at-requires c =
-    let E = c.args.e in
-    let w = c.requires.limited in
-    let distance = distance_is E w refl c.quotient_of-distance.ensures c.exact-2.ensures (radius_is c.over_of-radius.ensures c.requires.diameter_value) in
+pub factor_at-factor-requires : goal.factor_at-factor-requires
+factor_at-factor-requires c =
+    let E = c.args.a.enquiry in
+    let w = limited_of c.args.a in
+    let distance = distance_is E w refl c.div-distance.ensures c.exact-2.ensures (radius_is c.div-radius.ensures c.requires.diameter_value) in
     subst Spaced (sym distance) (distance_spaced E w)
 
 pub returns : goal.returns
 unfolding chain.radiant_flux chain.clear_flux chain.configuration_factor_of chain.relative_height_of chain.in_radii
 returns c =
-    let E = c.args.e in
-    let D = c.requires.diameter_value in
+    let E = c.args.a.enquiry in
     let flame = c.requires.flame_of in
-    let w = c.requires.limited in
-    let back = to_z-of_z w32 E.height (sfits_of (omega arith)) in
-    let radius = radius_is c.over_of-radius.ensures D in
-    let l = c.quotient_of-l.ensures ∙ ap₂ A.quotient flame.height radius in
-    let elevation = elevation_is E w (c.magnitude-from_base.ensures ∙ ap nat_abs back) c.quotient_of-elevation.ensures c.exact.ensures radius in
-    let distance = distance_is E w refl c.quotient_of-distance.ensures c.exact-2.ensures radius in
-    let side = c.from_base_up.ensures ∙ ap non_neg back in
-    let factor = c.factor_at.ensures ∙ same_factor E.face side l elevation distance in
-    c.transmitted.ensures ∙ ap (chain.transmitted A.answers E.transmissivity) (c.product_of-clear.ensures ∙ ap₂ A.product flame.power factor)
+    let w = limited_of c.args.a in
+    let radius = radius_is c.div-radius.ensures c.requires.diameter_value in
+    let l = c.div-l.ensures ∙ ap₂ A.quotient flame.height radius in
+    let elevation = elevation_is E w (search rules) c.div-elevation.ensures c.exact.ensures radius in
+    let distance = distance_is E w refl c.div-distance.ensures c.exact-2.ensures radius in
+    let factor = c.factor_at-factor.ensures ∙ same_factor c.args.a.face_is (search rules) l elevation distance in
+    c.transmitted.ensures ∙ ap (chain.transmitted A.answers E.transmissivity) (c.mul.ensures ∙ ap₂ A.product flame.power factor)

@@ -1,2 +1,0 @@
--- The face that is asked.
-pub mod Faces
