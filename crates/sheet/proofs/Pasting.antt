@@ -7,6 +7,7 @@ use native.Mathlib.Nat.{add_assoc, add-zero}
 use native.Mathlib.Numerals.{add-one}
 use native.Mathlib.Omega.{arith}
 use lib.ListN.{length, take, drop, set, length-append, take-append-drop, get_or, length-drop}
+use borrow.Rule.Slice.PartMut.{put_mid}
 use lib.Seq.{take-suc, set_split, length-take-le, take_at, drop-append-add, drop-drop}
 use Rattle.sheet.specs.Private.{pasted, Put}
 
@@ -21,6 +22,11 @@ module _ {A : Type 0} where
   unfolding pasted
   length_pasted d at vs h =
       simp (length-append, length-drop, length-take-le at d (omega arith)) (omega arith)
+
+  -- A copy over a part of a slice is a write.
+  pub overwritten : (d vs : List A) (at k : ℕ) → k ≡ length vs → put_mid at k d vs ≡ pasted d at vs
+  unfolding pasted
+  overwritten d vs at k e = ap (λ (x : List A). take at d ++ (vs ++ x)) (drop-drop k at d ∙ ap (λ (n : ℕ). drop (at + n) d) e)
 
   -- Two writes, the second from the end of the first on, are one.
   pub join : (d : List A) (at : ℕ) (vs ws : List A) → at + length vs + length ws ≤ length d → pasted (pasted d at vs) (at + length vs) ws ≡ pasted d at (vs ++ ws)

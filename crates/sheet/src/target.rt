@@ -5,7 +5,7 @@ ghost use Rattle.sheet.specs.Layout.{fuel_size, pool_size, target_size};
 ghost use Rattle.sheet.specs.Target.{enquiry_at, shown_of};
 ghost use Rattle.sheet.specs.Private.{Sound, shown_by};
 
-use super::bytes::{four, four_signed, one, two};
+use super::bytes::{four, four_signed, two};
 use super::layout::{
     ABSORPTION, COUNT_SIZE, DISTANCE, FACE, FUEL_INDEX, FUEL_SIZE, HEAT, HEIGHT, METHOD, POOL_SIZE,
     TARGET_SIZE, TRANSMISSIVITY,
@@ -53,9 +53,9 @@ fn enquiry(sheet: &[u8], fuel: usize, pool: usize, target: usize) -> Enquiry
         absorption: two(sheet, fuel + ABSORPTION),
         heat: two(sheet, fuel + HEAT),
         area: four(sheet, pool),
-        method: one(sheet, pool + METHOD),
+        method: sheet[pool + METHOD],
         distance: four(sheet, target + DISTANCE),
-        face: one(sheet, target + FACE),
+        face: sheet[target + FACE],
         height,
         transmissivity: two(sheet, target + TRANSMISSIVITY),
     }

@@ -1,9 +1,10 @@
--- `four` meets its contract: two numbers of two bytes.
+-- `four` meets its contract: the library's number of four bytes is two numbers of two.
 -- Assumes nothing.
-use Rattle.sheet.specs.Bytes.{four}
-use borrow.Author.Rules.{rules}
+use Rattle.std.proofs.Common.{arith}
+use Rattle.std.proofs.lemmas.Grind.{common_steps}
+use Rattle.sheet.specs.Bytes.{two, four}
 use Rattle.sheet.proofs.bytes.four.Goals as goal
 
 pub returns : goal.returns
-unfolding four
-returns c = search rules
+unfolding two four
+returns c = grind (arith, common_steps)

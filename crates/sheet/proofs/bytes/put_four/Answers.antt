@@ -1,9 +1,10 @@
--- `put_four` meets its contract: four stores in a row are one write.
+-- `put_four` meets its contract: the four bytes in the place of what stood there.
 -- Assumes nothing.
+use native.Mathlib.Omega.{arith}
 use Rattle.sheet.specs.Bytes.{four_bytes}
-use Rattle.sheet.proofs.Pasting.{four_stores}
+use Rattle.sheet.proofs.Pasting.{overwritten}
 use Rattle.sheet.proofs.bytes.put_four.Goals as goal
 
 pub returns : goal.returns
 unfolding four_bytes
-returns c = four_stores c.args.out.now c.args.at _ _ _ _ c.requires
+returns c = rw (c.copy_from_slice.ensures.after, c.to_be_bytes.ensures) (overwritten c.args.out.now _ c.args.at _ (omega arith))
