@@ -1,6 +1,6 @@
 -- Decimal digits: the count that bounds the recursion does not matter, the last digit comes off, and how many there are.
 -- By induction over the count. Assumes nothing.
-use mathlib.Core.Path.{◌≡◌, refl, ap, ◌∙◌}
+use mathlib.Core.Path.{◌≡◌, refl, sym, ap, ◌∙◌}
 use mathlib.Core.Bool.{Bool, true, false}
 use mathlib.Core.List.{List, [], ◌∷◌, ◌++◌}
 use Prim.Native.Nat.{ℕ, zero, suc, ◌+◌, ◌/◌, ◌%◌, ◌^◌, ◌≤◌, ◌<◌}
@@ -8,15 +8,13 @@ use native.Mathlib.Omega.{arith}
 use lib.ListN.{length, length-append}
 use lib.Dec.{ltb}
 use borrow.Author.Tests.{lt-ltb, le-ltb, ltb-false}
+use Rattle.std.specs.Fmt as std
+use Rattle.std.proofs.lemmas.Fmt.{decimal_by_steps, length-decimal-le}
 use Rattle.sheet.specs.Report.{digits, decimal, field}
 
 -- What `digits` chooses between.
 abbrev pick : Bool → List ℕ → List ℕ → List ℕ
 pick b x y = elim b [ true ↦ x | false ↦ y ]
-
-by_choice : (P : List ℕ → Type 0) (b : Bool) (x y : List ℕ) → P x → (b ≡ false → P y) → P (pick b x y)
-by_choice P true x y h k = h
-by_choice P false x y h k = k refl
 
 same_choice : (b : Bool) (x y z : List ℕ) → (b ≡ false → y ≡ z) → pick b x y ≡ pick b x z
 same_choice true x y z h = refl
@@ -42,28 +40,16 @@ last_digit n h =
     ap (λ (b : Bool). pick b ((48 + n) ∷ []) (digits n (n / 10) ++ ((48 + n % 10) ∷ []))) (le-ltb n 10 h)
     ∙ ap (λ (x : List ℕ). x ++ ((48 + n % 10) ∷ [])) (enough n (suc (n / 10)) (n / 10) (omega arith) (omega arith))
 
-pub digits_more : (n : ℕ) → 10 ≤ n → length (decimal n) ≡ length (decimal (n / 10)) + 1
-digits_more n h = ap length (last_digit n h) ∙ length-append (decimal (n / 10)) ((48 + n % 10) ∷ [])
-
--- How many digits there are.
-counted : (k m n : ℕ) → n < 10 ^ suc m → length (digits k n) ≤ suc m
-unfolding digits
-counted zero m n h = omega arith
-counted (suc k) zero n h =
-    by_choice (λ (x : List ℕ). length x ≤ 1) (ltb n 10) _ _ (omega arith)
-    (λ e. let large : 10 ≤ n = ltb-false n 10 e in absurd (omega arith))
-counted (suc k) (suc j) n h =
-    by_choice (λ (x : List ℕ). length x ≤ suc (suc j)) (ltb n 10) _ _ (omega arith)
-    (λ e. rw (length-append (digits k (n / 10)) ((48 + n % 10) ∷ [])) (omega (arith, counted k j (n / 10) (omega arith))))
-
-pub few_digits : (m n : ℕ) → n < 10 ^ suc m → length (decimal n) ≤ suc m
-unfolding decimal
-few_digits m n h = counted (suc n) m n h
-
-pub short_field : (m n end : ℕ) → n < 10 ^ suc m → length (field n end) ≤ suc (suc m)
-unfolding field
-short_field m n end h = rw (length-append (decimal n) (end ∷ [])) (omega (arith, few_digits m n h))
-
 pub field_length : (n end : ℕ) → length (field n end) ≡ length (decimal n) + 1
 unfolding field
 field_length n end = length-append (decimal n) (end ∷ [])
+
+-- The library's text of a number.
+pub decimal_is : (n : ℕ) → n < 2 ^ 64 → std.decimal n ≡ decimal n
+decimal_is =
+    decimal_by_steps (λ n ds. ds ≡ decimal n) (λ n h. sym (one_digit n h)) (λ n ds h e. ap (λ (x : List ℕ). x ++ ((48 + n % 10) ∷ [])) e ∙ sym (last_digit n h))
+
+-- How many digits there are.
+pub short_field : (k n end : ℕ) → 0 < k → n < 10 ^ k → n < 2 ^ 64 → length (field n end) ≤ k + 1
+short_field k n end some h g =
+    omega (arith, field_length n end, ap length (decimal_is n g), length-decimal-le k n some h g)

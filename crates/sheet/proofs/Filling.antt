@@ -9,8 +9,7 @@ use lib.ListN.{length, drop, set, length-append}
 use Rattle.chain.specs.Flux.{Shown}
 use Rattle.sheet.specs.declared.reading.Counts.{Counts}
 use Rattle.sheet.specs.declared.reading.Fault.{Fault}
-use Rattle.sheet.specs.declared.reading.Fault.TheVariants.{CutShort, TooMany, LeftOver, NoFuel, NoPool}
-use Rattle.sheet.specs.declared.reading.Reading.TheVariants.{Accepted, Refused}
+use Rattle.std.specs.Prelude.{Ok, Err}
 use Rattle.sheet.specs.Layout.{answer_size}
 use Rattle.sheet.specs.Bytes.{four_bytes}
 use Rattle.sheet.specs.Reading.{Outcome, outcome, number_of, refused, reading_of}
@@ -19,6 +18,7 @@ use Rattle.sheet.specs.Lent.{untouched, with_room, lent}
 use Rattle.sheet.specs.Fill.{ten_bytes, answers, fill_of}
 use Rattle.sheet.specs.Private.{pasted}
 use Rattle.sheet.proofs.Pasting.{store, join, store_after}
+use Rattle.sheet.proofs.Sections.{by_number}
 use Rattle.sheet.proofs.Lending.{room}
 
 -- A state, two numbers of four bytes and a note, one after the other.
@@ -58,18 +58,12 @@ written s out last t h e =
     let past : 0 + length (answers s t) ≡ answer_size * t = omega (arith, answers_length s t) in
     (λ j. record { number = 0; elements = (e ∙ ap (λ (k : ℕ). answers s t ++ drop k out) past) j }) ∙ room answer_size (answers s) t out h
 
-by_fault : (why : Fault) (s out : List ℕ) → untouched (number_of why) out ≡ lent (refused (number_of why)) answer_size (answers s) out
-by_fault CutShort s out = refl
-by_fault TooMany s out = refl
-by_fault LeftOver s out = refl
-by_fault NoFuel s out = refl
-by_fault NoPool s out = refl
-
-pub fill_refused : (s out : List ℕ) (why : Fault) → outcome (Refused why) ≡ reading_of s → untouched (number_of why) out ≡ fill_of s out
+pub fill_refused : (s out : List ℕ) (why : Fault) → outcome (Err why) ≡ reading_of s → untouched (number_of why) out ≡ fill_of s out
 unfolding fill_of
-fill_refused s out why e = by_fault why s out ∙ ap (λ (o : Outcome). lent o answer_size (answers s) out) e
+fill_refused s out why e =
+    by_number (λ n. untouched n out ≡ lent (refused n) answer_size (answers s) out) (λ k. refl) why ∙ ap (λ (o : Outcome). lent o answer_size (answers s) out) e
 
 pub fill_accepted :
-    (s out : List ℕ) (n : Counts) → outcome (Accepted n) ≡ reading_of s → with_room answer_size (answers s) n.targets out ≡ fill_of s out
+    (s out : List ℕ) (n : Counts) → outcome (Ok n) ≡ reading_of s → with_room answer_size (answers s) n.targets out ≡ fill_of s out
 unfolding fill_of
 fill_accepted s out n e = ap (λ (o : Outcome). lent o answer_size (answers s) out) e

@@ -6,10 +6,11 @@ use Prim.Native.Nat.{ℕ, ◌+◌, ◌≤◌, ◌<◌}
 use native.Mathlib.Nat.{add_assoc, add-zero}
 use native.Mathlib.Numerals.{add-one}
 use native.Mathlib.Omega.{arith}
-use lib.ListN.{length, take, drop, set, length-append, take-append-drop, get_or, length-drop}
+use lib.ListN.{length, take, drop, set, length-append, take-append-drop, length-drop}
 use borrow.Rule.Slice.PartMut.{put_mid}
-use lib.Seq.{take-suc, set_split, length-take-le, take_at, drop-append-add, drop-drop}
-use Rattle.sheet.specs.Private.{pasted, Put}
+use lib.Seq.{set_split, length-take-le, take_at, drop-append-add, drop-drop}
+use Rattle.sheet.specs.declared.text.Text.{Text}
+use Rattle.sheet.specs.Private.{pasted, Writes}
 
 -- Elements of any kind: bytes, and the floats and groups of a drawing.
 module _ {A : Type 0} where
@@ -24,9 +25,10 @@ module _ {A : Type 0} where
       simp (length-append, length-drop, length-take-le at d (omega arith)) (omega arith)
 
   -- A copy over a part of a slice is a write.
-  pub overwritten : (d vs : List A) (at k : ℕ) → k ≡ length vs → put_mid at k d vs ≡ pasted d at vs
+  pub overwritten : (d vs copied : List A) (at k : ℕ) → copied ≡ vs → k ≡ length vs → put_mid at k d copied ≡ pasted d at vs
   unfolding pasted
-  overwritten d vs at k e = ap (λ (x : List A). take at d ++ (vs ++ x)) (drop-drop k at d ∙ ap (λ (n : ℕ). drop (at + n) d) e)
+  overwritten d vs copied at k e g =
+      rw (e, g) (ap (λ (x : List A). take at d ++ (vs ++ x)) (drop-drop (length vs) at d))
 
   -- Two writes, the second from the end of the first on, are one.
   pub join : (d : List A) (at : ℕ) (vs ws : List A) → at + length vs + length ws ≤ length d → pasted (pasted d at vs) (at + length vs) ws ≡ pasted d at (vs ++ ws)
@@ -55,35 +57,31 @@ module _ {A : Type 0} where
       ∙ ap (λ (x : List A). set x (at + 2) c) (store_after d at (a ∷ []) b (omega arith))
       ∙ store_after d at (a ∷ b ∷ []) c (omega arith)
 
--- The same of the place after a write.
-pub then : {d e f : List ℕ} {at m n : ℕ} {vs ws : List ℕ} → Put d at vs e m → Put e m ws f n → at + length vs + length ws ≤ length d → Put d at (vs ++ ws) f n
-then {d} {e} {f} {at} {m} {n} {vs} {ws} p q h =
+-- A copy of a word after the text so far.
+pub word_written :
+    (t : Text) (w copied : List ℕ) → copied ≡ w → (k : ℕ) → k ≡ length w → t.len + length w ≤ length t.buffer.now
+    → Writes t w (record { buffer = record t.buffer { now = put_mid t.len k t.buffer.now copied }; len = t.len + length w })
+word_written t w copied e k g h =
+    let over = overwritten t.buffer.now w copied t.len k e g in
+    record { bytes = over; after = refl; kept = ap length over ∙ length_pasted t.buffer.now t.len w h; same = refl }
+
+-- Text after text.
+pub then : {t u v : Text} {vs ws : List ℕ} → Writes t vs u → Writes u ws v → v.len ≤ length t.buffer.now → Writes t (vs ++ ws) v
+then {t} {u} {v} {vs} {ws} p q h =
     record {
-      bytes = q.bytes ∙ rw (p.bytes, p.after) (join d at vs ws h);
-      after = q.after ∙ rw p.after (add_assoc at (length vs) (length ws) ∙ ap (λ (k : ℕ). at + k) (sym (length-append vs ws)));
+      bytes = q.bytes ∙ rw (p.bytes, p.after) (join t.buffer.now t.len vs ws (omega (arith, p.after, q.after)));
+      after = q.after ∙ rw p.after (add_assoc t.len (length vs) (length ws) ∙ ap (λ (k : ℕ). t.len + k) (sym (length-append vs ws)));
+      kept = q.kept ∙ p.kept;
+      same = q.same ∙ p.same;
     }
-
--- A store, and the place after it.
-pub stored : (d : List ℕ) (at v : ℕ) → at < length d → Put d at (v ∷ []) (set d at v) (at + 1)
-stored d at v h = record { bytes = store d at v h; after = refl }
-
-pub four_stores : (d : List ℕ) (at a b c e : ℕ) → at + 4 ≤ length d → set (set (set (set d at a) (at + 1) b) (at + 2) c) (at + 3) e ≡ pasted d at (a ∷ b ∷ c ∷ e ∷ [])
-four_stores d at a b c e h =
-    ap (λ (x : List ℕ). set x (at + 3) e) (three_stores d at a b c (omega arith)) ∙ store_after d at (a ∷ b ∷ c ∷ []) e (omega arith)
 
 -- Nothing written.
-pub nothing : (d : List ℕ) (at : ℕ) → Put d at [] d at
+pub nothing : (t : Text) → Writes t [] t
 unfolding pasted
-nothing d at =
+nothing t =
     record {
-      bytes = sym (ap (λ (k : ℕ). take at d ++ drop k d) (add-zero at) ∙ take-append-drop at d);
-      after = sym (add-zero at);
+      bytes = sym (ap (λ (k : ℕ). take t.len t.buffer.now ++ drop k t.buffer.now) (add-zero t.len) ∙ take-append-drop t.len t.buffer.now);
+      after = sym (add-zero t.len);
+      kept = refl;
+      same = refl;
     }
-
--- The front of a word, byte by byte.
-pub letter : (d w : List ℕ) (at i : ℕ) → i < length w → at + length w ≤ length d → set (pasted d at (take i w)) (at + i) (get_or w i 0) ≡ pasted d at (take (i + 1) w)
-letter d w at i h l =
-    let here : length (take i w) ≡ i = length-take-le i w (omega arith) in
-    ap (λ (k : ℕ). set (pasted d at (take i w)) (at + k) (get_or w i 0)) (sym here)
-    ∙ store_after d at (take i w) (get_or w i 0) (omega arith)
-    ∙ ap (pasted d at) (sym (take-suc w i 0 h) ∙ ap (λ (k : ℕ). take k w) (sym (add-one i)))

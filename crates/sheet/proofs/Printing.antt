@@ -12,14 +12,15 @@ use borrow.Author.Tests.{lt-ltb, le-ltb}
 use Rattle.chain.specs.Flux.{Shown}
 use Rattle.sheet.specs.declared.reading.Counts.{Counts}
 use Rattle.sheet.specs.declared.reading.Fault.{Fault}
-use Rattle.sheet.specs.declared.reading.Fault.TheVariants.{CutShort, TooMany, LeftOver, NoFuel, NoPool}
-use Rattle.sheet.specs.declared.reading.Reading.TheVariants.{Accepted, Refused}
+use Rattle.std.specs.Prelude.{Ok, Err}
+use Rattle.sheet.specs.declared.text.Text.{Text}
 use Rattle.sheet.specs.Reading.{Outcome, outcome, number_of, refused, reading_of}
 use Rattle.sheet.specs.Target.{shown_of}
-use Rattle.sheet.specs.Report.{field, space, line_feed, line, lines, targets_word, sheet_word, figures_text, refused_text, text_after, text_of, line_room, report_room, either, printed, report_of}
-use Rattle.sheet.specs.Private.{pasted, Put}
+use Rattle.sheet.specs.Report.{field, space, line_feed, line, lines, targets_word, sheet_word, figures_text, refused_text, text_after, text_of, report_room, either, printed, report_of}
+use Rattle.sheet.specs.Private.{pasted, Writes}
 use Rattle.sheet.proofs.Pasting.{then, nothing}
 use Rattle.sheet.proofs.Digits.{short_field}
+use Rattle.sheet.proofs.Sections.{by_number}
 
 -- Numbers that fit their types have short fields.
 pub record Short (i : ℕ) (a : Shown) : Type 0 where
@@ -32,74 +33,50 @@ pub record Short (i : ℕ) (a : Shown) : Type 0 where
 pub short : (i : ℕ) (a : Shown) → i < 1000 → a.state < 256 → a.low < 2 ^ 32 → a.high < 2 ^ 32 → a.note < 256 → Short i a
 short i a h s l m n =
     record {
-      index = short_field 2 i space h;
-      state = short_field 2 a.state space (omega arith);
-      low = short_field 9 a.low space (omega arith);
-      high = short_field 9 a.high space (omega arith);
-      note = short_field 2 a.note line_feed (omega arith);
+      index = short_field 3 i space (omega arith) h (omega arith);
+      state = short_field 3 a.state space (omega arith) (omega arith) (omega arith);
+      low = short_field 10 a.low space (omega arith) (omega arith) (omega arith);
+      high = short_field 10 a.high space (omega arith) (omega arith) (omega arith);
+      note = short_field 3 a.note line_feed (omega arith) (omega arith) (omega arith);
     }
 
 pub line_put :
-    (d e₁ e₂ e₃ e₄ e₅ : List ℕ) (at m₁ m₂ m₃ m₄ m₅ i : ℕ) (a : Shown) → Short i a → at + line_room ≤ length d
-    → Put d at (field i space) e₁ m₁ → Put e₁ m₁ (field a.state space) e₂ m₂ → Put e₂ m₂ (field a.low space) e₃ m₃
-    → Put e₃ m₃ (field a.high space) e₄ m₄ → Put e₄ m₄ (field a.note line_feed) e₅ m₅
-    → Put d at (line i a) e₅ m₅ × (m₅ ≤ at + line_room)
+    {t u₁ u₂ u₃ u₄ u₅ : Text} (i : ℕ) (a : Shown) → u₅.len ≤ length t.buffer.now
+    → Writes t (field i space) u₁ → Writes u₁ (field a.state space) u₂ → Writes u₂ (field a.low space) u₃
+    → Writes u₃ (field a.high space) u₄ → Writes u₄ (field a.note line_feed) u₅
+    → Writes t (line i a) u₅
 unfolding line
-line_put d e₁ e₂ e₃ e₄ e₅ at m₁ m₂ m₃ m₄ m₅ i a k h p q r s t =
-    let f₁ = field i space in
-    let f₂ = field a.state space in
-    let f₃ = field a.low space in
-    let f₄ = field a.high space in
-    let f₅ = field a.note line_feed in
-    let n₂ = length-append f₁ f₂ in
-    let n₃ = length-append (f₁ ++ f₂) f₃ in
-    let n₄ = length-append (f₁ ++ f₂ ++ f₃) f₄ in
-    let n₅ = length-append (f₁ ++ f₂ ++ f₃ ++ f₄) f₅ in
-    let p₂ = then p q (omega arith) in
-    let p₃ = then p₂ r (omega arith) in
-    let p₄ = then p₃ s (omega arith) in
-    let p₅ = then p₄ t (omega arith) in
-    (p₅, omega (arith, p₅.after))
+line_put i a h p q r s t = then (then (then (then p q (omega arith)) r (omega arith)) s (omega arith)) t h
 
 -- The lines so far, and one more.
-pub no_lines : (s d : List ℕ) (from : ℕ) → Put d from (lines s 0) d from
+pub no_lines : (s : List ℕ) (t : Text) → Writes t (lines s 0) t
 unfolding lines
-no_lines s d from = nothing d from
+no_lines s t = nothing t
 
 pub one_line :
-    (s d e f : List ℕ) (from at next i : ℕ) (a : Shown) → Put d from (lines s i) e at → Put e at (line i a) f next → a ≡ shown_of s i
-    → next ≤ length d → Put d from (lines s (i + 1)) f next
+    {t u v : Text} (s : List ℕ) (i : ℕ) (a : Shown) → Writes t (lines s i) u → Writes u (line i a) v → a ≡ shown_of s i
+    → v.len ≤ length t.buffer.now → Writes t (lines s (i + 1)) v
 unfolding lines
-one_line s d e f from at next i a p q g h =
-    rw (add-one i, ← g) (then p q (omega (arith, p.after, q.after)))
+one_line s i a p q g h = rw (add-one i, ← g) (then p q h)
 
 -- The first line, and what follows it.
 pub figures_put :
-    (s d e f g : List ℕ) (m n k t : ℕ) → Put d 0 targets_word e m → Put e m (field t line_feed) f n → Put f n (lines s t) g k → k ≤ length d
-    → Put d 0 (figures_text s t) g k
+    {t u v w : Text} (s : List ℕ) (n : ℕ) → Writes t targets_word u → Writes u (field n line_feed) v → Writes v (lines s n) w → w.len ≤ length t.buffer.now
+    → Writes t (figures_text s n) w
 unfolding figures_text
-figures_put s d e f g m n k t p q r h =
-    let w = field t line_feed in
-    let n₂ = length-append targets_word w in
-    then (then p q (omega (arith, q.after, r.after, p.after))) r (omega (arith, q.after, r.after, p.after))
+figures_put s n p q r h = then (then p q (omega arith)) r h
 
-pub refusal_put : (d e f : List ℕ) (m n k : ℕ) → Put d 0 sheet_word e m → Put e m (field k line_feed) f n → n ≤ length d → Put d 0 (refused_text k) f n
+pub refusal_put : {t u v : Text} (n : ℕ) → Writes t sheet_word u → Writes u (field n line_feed) v → v.len ≤ length t.buffer.now → Writes t (refused_text n) v
 unfolding refused_text
-refusal_put d e f m n k p q h = then p q (omega (arith, q.after, p.after))
+refusal_put n p q h = then p q h
 
 -- The cases of the definition.
-by_fault : (why : Fault) (s : List ℕ) → refused_text (number_of why) ≡ text_after (refused (number_of why)) s
-by_fault CutShort s = refl
-by_fault TooMany s = refl
-by_fault LeftOver s = refl
-by_fault NoFuel s = refl
-by_fault NoPool s = refl
-
-pub text_refused : (s : List ℕ) (why : Fault) → outcome (Refused why) ≡ reading_of s → refused_text (number_of why) ≡ text_of s
+pub text_refused : (s : List ℕ) (why : Fault) → outcome (Err why) ≡ reading_of s → refused_text (number_of why) ≡ text_of s
 unfolding text_of
-text_refused s why e = by_fault why s ∙ ap (λ (o : Outcome). text_after o s) e
+text_refused s why e =
+    by_number (λ n. refused_text n ≡ text_after (refused n) s) (λ k. refl) why ∙ ap (λ (o : Outcome). text_after o s) e
 
-pub text_accepted : (s : List ℕ) (n : Counts) → outcome (Accepted n) ≡ reading_of s → figures_text s n.targets ≡ text_of s
+pub text_accepted : (s : List ℕ) (n : Counts) → outcome (Ok n) ≡ reading_of s → figures_text s n.targets ≡ text_of s
 unfolding text_of
 text_accepted s n e = ap (λ (o : Outcome). text_after o s) e
 
@@ -108,14 +85,13 @@ unfolding report_of
 too_short s out h = rw (lt-ltb (length out) report_room h)
 
 pub printed_whole :
-    (s out last text : List ℕ) (n : ℕ) → report_room ≤ length out → Put out 0 text last n → text ≡ text_of s
+    (s out last : List ℕ) (n : ℕ) → report_room ≤ length out → last ≡ pasted out 0 (text_of s) → n ≡ 0 + length (text_of s)
     → record { count = n; bytes = last } ≡ report_of s out
 unfolding report_of pasted
-printed_whole s out last text n h p e =
-    let q : Put out 0 (text_of s) last n = rw e at p in
+printed_whole s out last n h e g =
     let past : 0 + length (text_of s) ≡ length (text_of s) = omega arith in
     rw (le-ltb (length out) report_room h)
-    (λ j. record { count = (q.after ∙ past) j; bytes = (q.bytes ∙ ap (λ (k : ℕ). text_of s ++ drop k out) past) j })
+    (λ j. record { count = (g ∙ past) j; bytes = (e ∙ ap (λ (k : ℕ). text_of s ++ drop k out) past) j })
 
 -- What was written fits the buffer, since the buffer keeps its length.
 fits_choice :

@@ -2,25 +2,27 @@
 -- By the outcome of each test in turn. Assumes nothing.
 use mathlib.Core.Path.{◌≡◌, refl, sym, ap, ◌∙◌, fun_ext}
 use mathlib.Core.Bool.{Bool, true, false, ◌||◌, or-true, false≢true}
-use mathlib.Core.List.{List}
+use mathlib.Core.List.{List, [], ◌∷◌, ◌++◌}
 use Prim.Native.Nat.{ℕ, zero, suc, ◌+◌, ◌*◌, ◌≤◌, ◌<◌}
 use native.Mathlib.Decide.{dec_lt}
 use native.Mathlib.Numerals.{add-one}
+use native.Mathlib.Nat.{add-zero, zero-add}
 use native.Mathlib.Omega.{arith}
 use lib.ListN.{length}
+use Rattle.std.specs.Prelude.{Result, Ok, Err}
+use Rattle.std.specs.List.{list_any, range_with_len}
+use Rattle.std.proofs.lemmas.List.Folds.{list_any-append}
 use lib.Dec.{leb, ltb}
-use borrow.Author.Tests.{ltb-false, leb-false, lt-ltb, le-ltb, lt-leb, le-leb}
+use borrow.Author.Tests.{ltb-false, leb-false, lt-ltb, le-ltb}
 use Rattle.pairs.specs.Figures.{refuse}
 use Rattle.pairs.proofs.Tests.{past_test}
 use Rattle.sheet.specs.declared.reading.Fault.{Fault}
-use Rattle.sheet.specs.declared.reading.Fault.TheVariants.{CutShort, TooMany}
-use Rattle.sheet.specs.declared.reading.Section.{Section}
-use Rattle.sheet.specs.declared.reading.Section.TheVariants as section
+use Rattle.sheet.specs.declared.reading.Fault.TheVariants.{CutShort, TooMany, LeftOver, NoFuel, NoPool}
 use Rattle.sheet.specs.Layout.{count_size, fuel_size, most_fuels, pool_size, most_pools, target_size, most_targets, fuel_index_offset, pools_start, targets_start, sheet_end}
 use Rattle.sheet.specs.Bytes.{two}
 use Rattle.sheet.specs.Reading as reading
 use Rattle.sheet.specs.Reading.{Outcome, refused, number_of, fuels_of, pools_of, targets_of, fuel_index, pool_index, some, no_fuel, no_pool, after_sections, from_targets, from_pools, reading_of}
-use Rattle.sheet.specs.Private.{choose, section_of, stray, Sound}
+use Rattle.sheet.specs.Private.{choose, section_of, Holding, stray, Sound}
 
 -- A test of the numbers below n: one passes, or none does.
 neither : (a b : Bool) → (a || b) ≡ false → (a ≡ false) × (b ≡ false)
@@ -52,28 +54,33 @@ some_more f n e g = ap (some f) (add-one n) ∙ ap (λ (b : Bool). b || some f n
 pub some_same : (f g : ℕ → Bool) (n : ℕ) → ((i : ℕ) → f i ≡ g i) → some f n ≡ some g n
 some_same f g n h = ap (λ (t : ℕ → Bool). some t n) (fun_ext h)
 
--- Indices, one after the other: none passed yet, one more passed, one that has no record.
-module _ (s : List ℕ) (first size limit : ℕ) where
-  pub stray_none : stray s first size 0 limit ≡ false
-  unfolding stray some
-  stray_none = refl
+-- `any` over the numbers below n.
+range_more : (a n : ℕ) → range_with_len a (suc n) ≡ range_with_len a n ++ ((a + n) ∷ [])
+range_more a zero = ap (λ (k : ℕ). k ∷ []) (sym (add-zero a))
+range_more a (suc n) = ap (λ (x : List ℕ). a ∷ x) (range_more (a + 1) n ∙ ap (λ (k : ℕ). range_with_len (a + 1) n ++ (k ∷ [])) (omega arith))
 
-  pub stray_more : (i : ℕ) → stray s first size i limit ≡ false → two s (first + size * i) < limit → stray s first size (i + 1) limit ≡ false
-  unfolding stray
-  stray_more i e h = some_more _ i e (lt-leb limit _ h)
+turned : (a b : Bool) → (a || (b || false)) ≡ (b || a)
+turned true true = refl
+turned true false = refl
+turned false true = refl
+turned false false = refl
 
-  pub stray_found : (count i : ℕ) → i < count → limit ≤ two s (first + size * i) → stray s first size count limit ≡ true
-  unfolding stray
-  stray_found count i h l = some_true _ count i h (le-leb limit _ l)
+pub any_below : (f : ℕ → Bool) (n : ℕ) → list_any f (range_with_len 0 n) ≡ some f n
+unfolding some
+any_below f zero = refl
+any_below f (suc n) =
+    ap (list_any f) (range_more 0 n)
+    ∙ list_any-append f (range_with_len 0 n) ((0 + n) ∷ [])
+    ∙ rw (any_below f n, zero-add n) (turned (some f n) (f n))
 
 -- What a section's count or fault leads to.
-abbrev pub continued : Section → Outcome → Outcome
-continued (section.Holds n) o = o
-continued (section.Refused why) o = refused (number_of why)
+abbrev pub continued : Result ℕ Fault → Outcome → Outcome
+continued (Ok n) o = o
+continued (Err why) o = refused (number_of why)
 
 by_tests :
     (a b c : Bool) (n : ℕ) (o : Outcome)
-    → refuse a (refused 1) (refuse b (refused 2) (refuse c (refused 1) o)) ≡ continued (choose a (section.Refused CutShort) (choose b (section.Refused TooMany) (choose c (section.Refused CutShort) (section.Holds n)))) o
+    → refuse a (refused 1) (refuse b (refused 2) (refuse c (refused 1) o)) ≡ continued (choose a (Err CutShort) (choose b (Err TooMany) (choose c (Err CutShort) (Ok n)))) o
 by_tests true b c n o = refl
 by_tests false true c n o = refl
 by_tests false false true n o = refl
@@ -85,29 +92,23 @@ continues s start size most o =
     by_tests (ltb (length s) (start + count_size)) (ltb most (two s start)) (ltb (length s) (start + count_size + size * two s start)) (two s start) o
 
 pub section_refused :
-    (s : List ℕ) (start size most : ℕ) (why : Fault) (o : Outcome) → section_of s start size most ≡ section.Refused why
+    (s : List ℕ) (start size most : ℕ) (why : Fault) (o : Outcome) → section_of s start size most ≡ Err why
     → refused (number_of why) ≡ reading.section s start size most o
-section_refused s start size most why o e = sym (continues s start size most o ∙ ap (λ (x : Section). continued x o) e)
+section_refused s start size most why o e = sym (continues s start size most o ∙ ap (λ (x : Result ℕ Fault). continued x o) e)
 
-pub section_held : (s : List ℕ) (start size most n : ℕ) (o : Outcome) → section_of s start size most ≡ section.Holds n → o ≡ reading.section s start size most o
-section_held s start size most n o e = sym (continues s start size most o ∙ ap (λ (x : Section). continued x o) e)
-
--- What a section that holds n records tells.
-pub record Holding (s : List ℕ) (start size most n : ℕ) : Type 0 where
-  pub counted : n ≡ two s start
-  pub limited : n ≤ most
-  pub inside : start + count_size + size * n ≤ length s
+pub section_held : (s : List ℕ) (start size most n : ℕ) (o : Outcome) → section_of s start size most ≡ Ok n → o ≡ reading.section s start size most o
+section_held s start size most n o e = sym (continues s start size most o ∙ ap (λ (x : Result ℕ Fault). continued x o) e)
 
 all_passed :
     (a b c : Bool) (m n : ℕ)
-    → choose a (section.Refused CutShort) (choose b (section.Refused TooMany) (choose c (section.Refused CutShort) (section.Holds m))) ≡ section.Holds n
+    → choose a (Err CutShort) (choose b (Err TooMany) (choose c (Err CutShort) (Ok m))) ≡ Ok n
     → (b ≡ false) × (c ≡ false) × (m ≡ n)
 all_passed true b c m n e = absurd (let z : ◌≡◌ {A = ℕ} 0 1 = cc in omega arith)
 all_passed false true c m n e = absurd (let z : ◌≡◌ {A = ℕ} 0 1 = cc in omega arith)
 all_passed false false true m n e = absurd (let z : ◌≡◌ {A = ℕ} 0 1 = cc in omega arith)
 all_passed false false false m n e = (refl, refl, cc)
 
-pub holding : (s : List ℕ) (start size most n : ℕ) → section_of s start size most ≡ section.Holds n → Holding s start size most n
+pub holding : (s : List ℕ) (start size most n : ℕ) → section_of s start size most ≡ Ok n → Holding s start size most n
 unfolding section_of
 holding s start size most n e =
     let p = all_passed (ltb (length s) (start + count_size)) (ltb most (two s start)) (ltb (length s) (start + count_size + size * two s start)) (two s start) n e in
@@ -153,6 +154,14 @@ sound s o e z =
       fuel_there = rw (← f, ← g) (λ i h. leb-false (fuels_of s) (fuel_index s i) (some_false (λ j. leb (fuels_of s) (fuel_index s j)) (pools_of s) q.0 i h));
       pool_there = rw (← g, ← t) (λ i h. leb-false (pools_of s) (pool_index s i) (some_false (λ j. leb (pools_of s) (pool_index s j)) (targets_of s) r.0 i h));
     }
+
+-- A fault's number is not 0.
+pub by_number : (P : ℕ → Type 0) → ((k : ℕ) → P (suc k)) → (why : Fault) → P (number_of why)
+by_number P h CutShort = h 0
+by_number P h TooMany = h 1
+by_number P h LeftOver = h 2
+by_number P h NoFuel = h 3
+by_number P h NoPool = h 4
 
 -- A refused sheet has no target, and no sheet has more than the most.
 by_test : (P : Outcome → Type 0) (b : Bool) {x y : Outcome} → P x → P y → P (refuse b x y)
@@ -215,29 +224,43 @@ module _ (s : List ℕ) (f p t : ℕ) (fuels_are : f ≡ fuels_of s) (pools_are 
   unfolding after_sections
   accepted h e g = simp (le-ltb _ _ (rw (fuels_are, pools_are, targets_are) at h), sym fuels_tested ∙ e, sym pools_tested ∙ g) (λ j. record { state = 0; fuels = fuels_are j; pools = pools_are j; targets = targets_are j })
 
--- The sections of pools and of targets start where the counts before them say.
-pub fuels_counted : (s : List ℕ) → two s 0 ≡ fuels_of s
-unfolding fuels_of
-fuels_counted s = refl
+-- The three sections, one after the other.
+module _ (s : List ℕ) where
+  pub fuels_refused : (why : Fault) → section_of s 0 fuel_size most_fuels ≡ Err why → refused (number_of why) ≡ reading_of s
+  unfolding reading_of
+  fuels_refused why e = section_refused s 0 fuel_size most_fuels why (from_pools s) e
 
-pub pools_counted : (s : List ℕ) (f : ℕ) → f ≡ fuels_of s → two s (pools_start f) ≡ pools_of s
-unfolding pools_of
-pools_counted s f e = rw e
+  module _ (f : ℕ) (held_fuels : section_of s 0 fuel_size most_fuels ≡ Ok f) where
+    fuels_passed : from_pools s ≡ reading_of s
+    unfolding reading_of
+    fuels_passed = section_held s 0 fuel_size most_fuels f (from_pools s) held_fuels
 
-pub targets_counted : (s : List ℕ) (f p : ℕ) → f ≡ fuels_of s → p ≡ pools_of s → two s (targets_start f p) ≡ targets_of s
-unfolding targets_of
-targets_counted s f p e g = rw (e, g)
+    pub fuels_are : f ≡ fuels_of s
+    unfolding fuels_of
+    fuels_are = (holding s 0 fuel_size most_fuels f held_fuels).counted
 
-pub first_section : (s : List ℕ) → reading.section s 0 fuel_size most_fuels (from_pools s) ≡ reading_of s
-unfolding reading_of
-first_section s = refl
+    pub pools_refused : (why : Fault) → section_of s (pools_start f) pool_size most_pools ≡ Err why → refused (number_of why) ≡ reading_of s
+    unfolding from_pools
+    pools_refused why e = section_refused s (pools_start f) pool_size most_pools why (from_targets s) e ∙ rw fuels_are fuels_passed
 
-pub pools_section : (s : List ℕ) (f : ℕ) → f ≡ fuels_of s → reading.section s (pools_start f) pool_size most_pools (from_targets s) ≡ from_pools s
-unfolding from_pools
-pools_section s f e = rw e
+    module _ (p : ℕ) (held_pools : section_of s (pools_start f) pool_size most_pools ≡ Ok p) where
+      pools_passed : from_targets s ≡ reading_of s
+      unfolding from_pools
+      pools_passed = section_held s (pools_start f) pool_size most_pools p (from_targets s) held_pools ∙ rw fuels_are fuels_passed
 
-pub targets_section :
-    (s : List ℕ) (f p : ℕ) → f ≡ fuels_of s → p ≡ pools_of s
-    → reading.section s (targets_start f p) target_size most_targets (after_sections s) ≡ from_targets s
-unfolding from_targets
-targets_section s f p e g = rw (e, g)
+      pub pools_are : p ≡ pools_of s
+      unfolding pools_of
+      pools_are = (holding s (pools_start f) pool_size most_pools p held_pools).counted ∙ rw fuels_are
+
+      pub targets_refused : (why : Fault) → section_of s (targets_start f p) target_size most_targets ≡ Err why → refused (number_of why) ≡ reading_of s
+      unfolding from_targets
+      targets_refused why e = section_refused s (targets_start f p) target_size most_targets why (after_sections s) e ∙ rw (fuels_are, pools_are) pools_passed
+
+      module _ (t : ℕ) (held_targets : section_of s (targets_start f p) target_size most_targets ≡ Ok t) where
+        pub targets_passed : after_sections s ≡ reading_of s
+        unfolding from_targets
+        targets_passed = section_held s (targets_start f p) target_size most_targets t (after_sections s) held_targets ∙ rw (fuels_are, pools_are) pools_passed
+
+        pub targets_are : t ≡ targets_of s
+        unfolding targets_of
+        targets_are = (holding s (targets_start f p) target_size most_targets t held_targets).counted ∙ rw (fuels_are, pools_are)

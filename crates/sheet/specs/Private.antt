@@ -1,24 +1,32 @@
 -- Vocabulary of private functions' contracts. No public contract uses it.
-use Rattle.std.specs.Prelude.{◌≡◌, ℕ, ◌+◌, ◌*◌, ◌≤◌, ◌<◌, Bool, true, false, List, ◌++◌, length, take, drop, leb, ltb}
+use Rattle.std.specs.Prelude.{◌≡◌, ℕ, ◌+◌, ◌*◌, ◌≤◌, ◌<◌, Bool, true, false, List, ◌++◌, length, take, drop, leb, ltb, Result, Ok, Err}
 use Rattle.chain.specs.Flux.{Shown}
+use Rattle.sheet.specs.declared.reading.Fault.{Fault}
 use Rattle.sheet.specs.declared.reading.Fault.TheVariants.{CutShort, TooMany}
-use Rattle.sheet.specs.declared.reading.Section.{Section}
-use Rattle.sheet.specs.declared.reading.Section.TheVariants as section
 use Rattle.sheet.specs.declared.target.Entry.{Entry}
+use Rattle.sheet.specs.declared.fill.NotFilled.{NotFilled}
+use Rattle.sheet.specs.declared.fill.NotFilled.TheVariants as refusal
+use Rattle.sheet.specs.declared.text.Text.{Text}
 use Rattle.sheet.specs.Layout.{count_size, most_targets, sheet_end}
 use Rattle.sheet.specs.Bytes.{two}
-use Rattle.sheet.specs.Reading.{some, fuels_of, pools_of, targets_of, fuel_index, pool_index}
+use Rattle.sheet.specs.Reading.{number_of, some, fuels_of, pools_of, targets_of, fuel_index, pool_index}
 
-abbrev pub choose : Bool → Section → Section → Section
+abbrev pub choose : Bool → Result ℕ Fault → Result ℕ Fault → Result ℕ Fault
 choose true a b = a
 choose false a b = b
 
 -- A section's count, or its first fault.
-unfoldable pub section_of : List ℕ → ℕ → ℕ → ℕ → Section
+unfoldable pub section_of : List ℕ → ℕ → ℕ → ℕ → Result ℕ Fault
 section_of s start size most =
-    choose (ltb (length s) (start + count_size)) (section.Refused CutShort)
-    (choose (ltb most (two s start)) (section.Refused TooMany)
-    (choose (ltb (length s) (start + count_size + size * two s start)) (section.Refused CutShort) (section.Holds (two s start))))
+    choose (ltb (length s) (start + count_size)) (Err CutShort)
+    (choose (ltb most (two s start)) (Err TooMany)
+    (choose (ltb (length s) (start + count_size + size * two s start)) (Err CutShort) (Ok (two s start))))
+
+-- What a section that holds n records tells.
+pub record Holding (s : List ℕ) (start size most n : ℕ) : Type 0 where
+  pub counted : n ≡ two s start
+  pub limited : n ≤ most
+  pub inside : start + count_size + size * n ≤ length s
 
 -- Whether one of `count` indices, `size` bytes apart from `first` on, is `limit` or more.
 unfoldable pub stray : List ℕ → ℕ → ℕ → ℕ → ℕ → Bool
@@ -37,11 +45,24 @@ pub record Sound (s : List ℕ) (fuels pools targets : ℕ) : Type 0 where
 abbrev pub shown_by : Entry → Shown
 shown_by e = record { state = e.state; low = e.low; high = e.high; note = e.note }
 
+-- The number that a fill returns.
+abbrev pub not_filled : NotFilled → ℕ
+not_filled (refusal.Sheet why) = number_of why
+not_filled refusal.NoRoom = 31
+
+abbrev pub returned : Result (Unit {0}) NotFilled → ℕ
+returned (Ok _) = 0
+returned (Err why) = not_filled why
+
 -- d with vs in the place of what stood from `at` on.
 unfoldable pub pasted : {A : Type 0} → List A → ℕ → List A → List A
 pasted d at vs = take at d ++ (vs ++ drop (at + length vs) d)
 
 -- vs was written at `at`, and `next` is the place after it.
-pub record Put (d : List ℕ) (at : ℕ) (vs : List ℕ) (e : List ℕ) (next : ℕ) : Type 0 where
-  pub bytes : e ≡ pasted d at vs
-  pub after : next ≡ at + length vs
+
+-- vs was written after the text so far, in the same buffer.
+pub record Writes (t : Text) (vs : List ℕ) (u : Text) : Type 0 where
+  pub bytes : u.buffer.now ≡ pasted t.buffer.now t.len vs
+  pub after : u.len ≡ t.len + length vs
+  pub kept : length u.buffer.now ≡ length t.buffer.now
+  pub same : u.buffer.ghost_name ≡ t.buffer.ghost_name

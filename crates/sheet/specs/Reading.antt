@@ -1,10 +1,9 @@
 -- Document 01, "Reading a sheet" under "Turned back": what reading gives, on all bytes.
-use Rattle.std.specs.Prelude.{ℕ, zero, suc, ◌+◌, ◌*◌, Bool, false, ◌||◌, List, length, leb, ltb}
+use Rattle.std.specs.Prelude.{ℕ, zero, suc, ◌+◌, ◌*◌, Bool, false, ◌||◌, List, length, leb, ltb, Result, Ok, Err}
 use Rattle.pairs.specs.Figures.{refuse}
 use Rattle.sheet.specs.declared.reading.Fault.{Fault}
 use Rattle.sheet.specs.declared.reading.Fault.TheVariants.{CutShort, TooMany, LeftOver, NoFuel, NoPool}
-use Rattle.sheet.specs.declared.reading.Reading.{Reading}
-use Rattle.sheet.specs.declared.reading.Reading.TheVariants.{Accepted, Refused}
+use Rattle.sheet.specs.declared.reading.Counts.{Counts}
 use Rattle.sheet.specs.Layout.{count_size, fuel_size, most_fuels, pool_size, most_pools, target_size, most_targets, fuel_index_offset, pools_start, targets_start, sheet_end, pool_at, target_at}
 use Rattle.sheet.specs.Bytes.{two}
 
@@ -26,10 +25,10 @@ number_of LeftOver = 3
 number_of NoFuel = 4
 number_of NoPool = 5
 
--- This paper's number and counts for each case of the enum Reading. "An accepted sheet returns 0 and its three counts."
-abbrev pub outcome : Reading → Outcome
-outcome (Accepted n) = record { state = 0; fuels = n.fuels; pools = n.pools; targets = n.targets }
-outcome (Refused why) = refused (number_of why)
+-- This paper's number and counts for what reading gives. "An accepted sheet returns 0 and its three counts."
+abbrev pub outcome : Result Counts Fault → Outcome
+outcome (Ok n) = record { state = 0; fuels = n.fuels; pools = n.pools; targets = n.targets }
+outcome (Err why) = refused (number_of why)
 
 -- The count of each section stands at its start.
 unfoldable pub fuels_of : List ℕ → ℕ

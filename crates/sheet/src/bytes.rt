@@ -1,7 +1,6 @@
 // Numbers in bytes, most significant first.
 ghost use Rattle.std.specs.Prelude.{◌≡◌, ◌+◌, ◌≤◌, length};
-ghost use Rattle.sheet.specs.Bytes.{two, four, four_signed, four_bytes};
-ghost use Rattle.sheet.specs.Private.{pasted};
+ghost use Rattle.sheet.specs.Bytes.{two, four, four_signed};
 
 pub(crate) fn two(s: &[u8], at: usize) -> u16
     requires { at + 2 ≤ length s.now }
@@ -23,12 +22,4 @@ pub(crate) fn four_signed(s: &[u8], at: usize) -> i32
     ensures { result ≡ four_signed s.now at }
 {
     four(s, at).cast_signed()
-}
-
-// The four bytes of n, from `at` on.
-pub(crate) fn put_four(out: &mut [u8], at: usize, n: u32)
-    requires { at + 4 ≤ length out.old }
-    ensures { out.new ≡ pasted out.old at (four_bytes n) }
-{
-    out[at..at + 4].copy_from_slice(&n.to_be_bytes());
 }

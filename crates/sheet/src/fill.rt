@@ -1,76 +1,81 @@
 // The fill: ten bytes for each target of a sheet, into a lent slice. Document 01, "Fill".
 ghost use Rattle.std.specs.Prelude.{◌≡◌, ◌+◌, ◌*◌, ◌≤◌, length};
+ghost use Rattle.chain.specs.Flux.{shown};
+ghost use Rattle.sheet.specs.declared.fill.NotFilled.TheVariants.{Sheet};
 ghost use Rattle.sheet.specs.Layout.{answer_size};
-ghost use Rattle.sheet.specs.Reading.{number_of};
-ghost use Rattle.sheet.specs.Lent.{with_room};
 ghost use Rattle.sheet.specs.Fill.{ten_bytes, answers, fill_of};
-ghost use Rattle.sheet.specs.Private.{Sound, shown_by, pasted};
+ghost use Rattle.sheet.specs.Private.{not_filled, returned, pasted};
 
-use super::bytes::put_four;
 use super::layout::ANSWER_SIZE;
-use super::reading::{Counts, Fault, Reading, read};
-use super::target::{Entry, target};
+use super::reading::{Accepted, Fault};
+use super::target::Entry;
+use chain::enquiry::Flux;
 
-// The numbers of "Reading a sheet".
-pub(crate) fn number(why: Fault) -> u8
-    ensures { result ≡ number_of why }
-{
-    match why {
-        Fault::CutShort => 1,
-        Fault::TooMany => 2,
-        Fault::LeftOver => 3,
-        Fault::NoFuel => 4,
-        Fault::NoPool => 5,
+// Why nothing is written: the sheet's fault, or fewer than ten bytes per target.
+#[derive(Clone, Copy)]
+enum NotFilled {
+    Sheet(Fault),
+    NoRoom,
+}
+
+impl From<Fault> for NotFilled {
+    ghost from_gives = { λ why e. e ≡ Sheet why };
+
+    fn from(why: Fault) -> NotFilled {
+        NotFilled::Sheet(why)
     }
 }
 
-// The ten bytes of an entry, from `at` on.
-fn put_entry(out: &mut [u8], at: usize, e: Entry)
+impl From<NotFilled> for u8 {
+    ghost from_gives = { λ why n. n ≡ not_filled why };
+
+    fn from(why: NotFilled) -> u8 {
+        match why {
+            NotFilled::Sheet(fault) => u8::from(fault),
+            NotFilled::NoRoom => 31,
+        }
+    }
+}
+
+// The ten bytes of an answer, from `at` on.
+fn put_answer(out: &mut [u8], at: usize, answer: Flux)
     requires { at + answer_size ≤ length out.old }
-    ensures { out.new ≡ pasted out.old at (ten_bytes (shown_by e)) }
+    ensures { out.new ≡ pasted out.old at (ten_bytes (shown answer)) }
 {
-    let low = e.low;
-    let high = e.high;
+    let e = Entry::from(answer);
     out[at] = e.state;
-    put_four(out, at + 1, low);
-    put_four(out, at + 5, high);
+    out[at + 1..at + 5].copy_from_slice(&e.low.to_be_bytes());
+    out[at + 5..at + 9].copy_from_slice(&e.high.to_be_bytes());
     out[at + 9] = e.note;
 }
 
 // The answers of all targets, in their order, from the front of a slice with room for them.
-fn put_answers(sheet: &[u8], counts: Counts, out: &mut [u8])
-    requires { Sound sheet.now counts.fuels counts.pools counts.targets × (answer_size * counts.targets ≤ length out.old) }
-    ensures { out.new ≡ pasted out.old 0 (answers sheet.now counts.targets) }
+fn put_answers(out: &mut [u8], sheet: &Accepted)
+    requires { answer_size * sheet.now.counts.targets ≤ length out.old }
+    ensures { out.new ≡ pasted out.old 0 (answers sheet.now.bytes.now sheet.now.counts.targets) }
 {
-    let targets = counts.targets;
-    let mut i = 0;
-    while i < targets {
-        put_entry(out, ANSWER_SIZE * i, target(sheet, counts, i));
-        i += 1;
+    for i in 0..sheet.counts.targets {
+        put_answer(out, ANSWER_SIZE * i, sheet.target(i));
     }
 }
 
-// The fill of an accepted sheet.
-fn fill_accepted(sheet: &[u8], counts: Counts, out: &mut [u8]) -> u8
-    requires { Sound sheet.now counts.fuels counts.pools counts.targets }
-    ensures { (result ≡ (with_room answer_size (answers sheet.now) counts.targets out.old).number) × (out.new ≡ (with_room answer_size (answers sheet.now) counts.targets out.old).elements) }
+fn try_fill(sheet: &[u8], out: &mut [u8]) -> Result<(), NotFilled>
+    ensures { (returned result ≡ (fill_of sheet.now out.old).number) × (out.new ≡ (fill_of sheet.now out.old).elements) }
 {
-    let targets = counts.targets;
-    if out.len() < ANSWER_SIZE * targets {
-        return 31;
+    let sheet = Accepted::read(sheet)?;
+    if out.len() < ANSWER_SIZE * sheet.counts.targets {
+        return Err(NotFilled::NoRoom);
     }
-    put_answers(sheet, counts, out);
-    0
+    put_answers(out, &sheet);
+    Ok(())
 }
 
 // Writes ten bytes per target of the sheet and returns 0; or writes nothing and returns the number of the refusal.
-#[unsafe(no_mangle)]
-pub extern "C" fn fill(sheet: &[u8], out: &mut [u8]) -> u8
+pub fn fill(sheet: &[u8], out: &mut [u8]) -> u8
     ensures { (result ≡ (fill_of sheet.now out.old).number) × (out.new ≡ (fill_of sheet.now out.old).elements) }
 {
-    let found = read(sheet);
-    match found {
-        Reading::Refused(why) => number(why),
-        Reading::Accepted(counts) => fill_accepted(sheet, counts, out),
+    match try_fill(sheet, out) {
+        Ok(()) => 0,
+        Err(why) => u8::from(why),
     }
 }

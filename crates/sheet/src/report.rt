@@ -1,64 +1,70 @@
 // The text that the desk prints for a sheet, into a lent buffer.
 ghost use Rattle.std.specs.Prelude.{◌≡◌, ◌+◌, ◌*◌, ◌≤◌, ◌<◌, length};
+ghost use Rattle.chain.specs.Flux.{shown};
 ghost use Rattle.sheet.specs.Layout.{most_targets};
 ghost use Rattle.sheet.specs.Reading.{number_of};
-ghost use Rattle.sheet.specs.Report.{line, lines, figures_text, refused_text, line_room, report_room, report_of};
-ghost use Rattle.sheet.specs.Private.{Sound, shown_by, Put};
+ghost use Rattle.sheet.specs.Report.{line, lines, figures_text, refused_text, text_of, line_room, report_room, report_of};
+ghost use Rattle.sheet.specs.Private.{Writes};
 
-use super::fill::number;
-use super::reading::{Counts, Fault, Reading, read};
-use super::target::{Entry, target};
-use super::text::{put_field, put_word};
+use super::layout::MOST_TARGETS;
+use super::reading::{Accepted, Fault};
+use super::target::Entry;
+use super::text::Text;
+use chain::enquiry::Flux;
 
-// The room that `report` asks for: 12 bytes for the first line, and 34 for each of 512 targets.
-pub const ROOM: usize = 17420;
+// The room that `report` asks for: 12 bytes for the first line, and 34 for each of the most targets.
+pub const ROOM: usize = 12 + 34 * MOST_TARGETS;
 
 // One target's line.
-fn put_line(out: &mut [u8], at: usize, i: usize, e: Entry) -> usize
-    requires { (i < most_targets) × (at + line_room ≤ length out.old) }
-    ensures { Put out.old at (line i (shown_by e)) out.new result × (result ≤ at + line_room) }
+fn put_line(text: &mut Text, i: usize, answer: Flux)
+    requires { (i < most_targets) × (text.old.len + line_room ≤ length text.old.buffer.now) }
+    ensures { Writes text.old (line i (shown answer)) text.new × (text.new.len ≤ text.old.len + line_room) }
 {
-    let low = e.low;
-    let high = e.high;
-    let after_index = put_field(out, at, i as u32, b' ');
-    let after_state = put_field(out, after_index, e.state as u32, b' ');
-    let after_low = put_field(out, after_state, low, b' ');
-    let after_high = put_field(out, after_low, high, b' ');
-    put_field(out, after_high, e.note as u32, b'\n')
+    let e = Entry::from(answer);
+    text.field(i as u32, b' ');
+    text.field(e.state as u32, b' ');
+    text.field(e.low, b' ');
+    text.field(e.high, b' ');
+    text.field(e.note as u32, b'\n');
 }
 
-// The lines of all targets, in their order, from `from` on.
-fn put_lines(sheet: &[u8], counts: Counts, out: &mut [u8], from: usize) -> usize
-    requires { Sound sheet.now counts.fuels counts.pools counts.targets × (from + line_room * counts.targets ≤ length out.old) }
-    ensures { Put out.old from (lines sheet.now counts.targets) out.new result × (result ≤ from + line_room * counts.targets) }
+// The lines of all targets, in their order.
+fn put_lines(text: &mut Text, sheet: &Accepted)
+    requires { text.old.len + line_room * sheet.now.counts.targets ≤ length text.old.buffer.now }
+    ensures { Writes text.old (lines sheet.now.bytes.now sheet.now.counts.targets) text.new × (text.new.len ≤ text.old.len + line_room * sheet.now.counts.targets) }
 {
-    let targets = counts.targets;
-    let mut at = from;
-    let mut i = 0;
-    while i < targets {
-        at = put_line(out, at, i, target(sheet, counts, i));
-        i += 1;
+    for i in 0..sheet.counts.targets {
+        put_line(text, i, sheet.target(i));
     }
-    at
 }
 
 // The text of an accepted sheet.
-fn put_figures(sheet: &[u8], counts: Counts, out: &mut [u8]) -> usize
-    requires { Sound sheet.now counts.fuels counts.pools counts.targets × (report_room ≤ length out.old) }
-    ensures { Put out.old 0 (figures_text sheet.now counts.targets) out.new result }
+fn put_figures(text: &mut Text, sheet: &Accepted)
+    requires { text.old.len + report_room ≤ length text.old.buffer.now }
+    ensures { Writes text.old (figures_text sheet.now.bytes.now sheet.now.counts.targets) text.new }
 {
-    let after_word = put_word(out, 0, b"targets ");
-    let after_count = put_field(out, after_word, counts.targets as u32, b'\n');
-    put_lines(sheet, counts, out, after_count)
+    text.word(b"targets ");
+    text.field(sheet.counts.targets as u32, b'\n');
+    put_lines(text, sheet);
 }
 
 // The text of a refused sheet.
-fn put_refusal(out: &mut [u8], why: Fault) -> usize
-    requires { report_room ≤ length out.old }
-    ensures { Put out.old 0 (refused_text (number_of why)) out.new result }
+fn put_refusal(text: &mut Text, why: Fault)
+    requires { text.old.len + report_room ≤ length text.old.buffer.now }
+    ensures { Writes text.old (refused_text (number_of why)) text.new }
 {
-    let after_word = put_word(out, 0, b"sheet ");
-    put_field(out, after_word, number(why) as u32, b'\n')
+    text.word(b"sheet ");
+    text.field(u8::from(why) as u32, b'\n');
+}
+
+fn put_report(text: &mut Text, sheet: &[u8])
+    requires { text.old.len + report_room ≤ length text.old.buffer.now }
+    ensures { Writes text.old (text_of sheet.now) text.new }
+{
+    match Accepted::read(sheet) {
+        Ok(accepted) => put_figures(text, &accepted),
+        Err(why) => put_refusal(text, why),
+    }
 }
 
 // Writes the text into a buffer of at least ROOM bytes and returns its length; in a shorter one writes nothing and returns 0.
@@ -68,9 +74,10 @@ pub fn report(sheet: &[u8], out: &mut [u8]) -> usize
     if out.len() < ROOM {
         return 0;
     }
-    let found = read(sheet);
-    match found {
-        Reading::Refused(why) => put_refusal(out, why),
-        Reading::Accepted(counts) => put_figures(sheet, counts, out),
-    }
+    let mut text = Text {
+        buffer: out,
+        len: 0,
+    };
+    put_report(&mut text, sheet);
+    text.len
 }

@@ -3,16 +3,49 @@ ghost use Rattle.std.specs.Prelude.{◌≡◌, ◌+◌, ◌≤◌, ◌<◌, leng
 ghost use Rattle.chain.specs.Flux.{shown};
 ghost use Rattle.sheet.specs.Layout.{fuel_size, pool_size, target_size};
 ghost use Rattle.sheet.specs.Target.{enquiry_at, shown_of};
-ghost use Rattle.sheet.specs.Private.{Sound, shown_by};
+ghost use Rattle.sheet.specs.Private.{shown_by};
 
 use super::bytes::{four, four_signed, two};
 use super::layout::{
     ABSORPTION, COUNT_SIZE, DISTANCE, FACE, FUEL_INDEX, FUEL_SIZE, HEAT, HEIGHT, METHOD, POOL_SIZE,
     TARGET_SIZE, TRANSMISSIVITY,
 };
-use super::reading::Counts;
+use super::reading::Accepted;
 use chain::enquiry::{Enquiry, Flux};
 use chain::flux::{flux, number};
+
+// The enquiry whose fuel, pool and target stand at these places.
+fn enquiry(sheet: &[u8], fuel: usize, pool: usize, target: usize) -> Enquiry
+    requires { (fuel + fuel_size ≤ length sheet.now) × (pool + pool_size ≤ length sheet.now) × (target + target_size ≤ length sheet.now) }
+    ensures { result ≡ enquiry_at sheet.now fuel pool target }
+{
+    Enquiry {
+        rate: two(sheet, fuel),
+        absorption: two(sheet, fuel + ABSORPTION),
+        heat: two(sheet, fuel + HEAT),
+        area: four(sheet, pool),
+        method: sheet[pool + METHOD],
+        distance: four(sheet, target + DISTANCE),
+        face: sheet[target + FACE],
+        height: four_signed(sheet, target + HEIGHT),
+        transmissivity: two(sheet, target + TRANSMISSIVITY),
+    }
+}
+
+impl Accepted<'_> {
+    // The answer to the enquiry of target i.
+    pub(crate) fn target(&self, i: usize) -> Flux
+        requires { i < self.now.counts.targets }
+        ensures { shown result ≡ shown_of self.now.bytes.now i }
+    {
+        let sheet = self.bytes;
+        let first_pool = COUNT_SIZE + FUEL_SIZE * self.counts.fuels + COUNT_SIZE;
+        let target = first_pool + POOL_SIZE * self.counts.pools + COUNT_SIZE + TARGET_SIZE * i;
+        let pool = first_pool + POOL_SIZE * (two(sheet, target) as usize);
+        let fuel = COUNT_SIZE + FUEL_SIZE * (two(sheet, pool + FUEL_INDEX) as usize);
+        flux(enquiry(sheet, fuel, pool, target))
+    }
+}
 
 // What is shown for a target: the state is 0 or the refusal number, and a refused target has zeros.
 #[derive(Clone, Copy)]
@@ -23,54 +56,23 @@ pub(crate) struct Entry {
     pub(crate) note: u8,
 }
 
-fn entry_of(f: Flux) -> Entry
-    ensures { shown_by result ≡ shown f }
-{
-    match f {
-        Flux::Is(p) => Entry {
-            state: 0,
-            low: p.low,
-            high: p.high,
-            note: p.note,
-        },
-        Flux::Refused(why) => Entry {
-            state: number(why),
-            low: 0,
-            high: 0,
-            note: 0,
-        },
-    }
-}
+impl From<Flux> for Entry {
+    ghost from_gives = { λ f e. shown_by e ≡ shown f };
 
-// The enquiry whose fuel, pool and target stand at these places.
-fn enquiry(sheet: &[u8], fuel: usize, pool: usize, target: usize) -> Enquiry
-    requires { (fuel + fuel_size ≤ length sheet.now) × (pool + pool_size ≤ length sheet.now) × (target + target_size ≤ length sheet.now) }
-    ensures { result ≡ enquiry_at sheet.now fuel pool target }
-{
-    let height = four_signed(sheet, target + HEIGHT);
-    Enquiry {
-        rate: two(sheet, fuel),
-        absorption: two(sheet, fuel + ABSORPTION),
-        heat: two(sheet, fuel + HEAT),
-        area: four(sheet, pool),
-        method: sheet[pool + METHOD],
-        distance: four(sheet, target + DISTANCE),
-        face: sheet[target + FACE],
-        height,
-        transmissivity: two(sheet, target + TRANSMISSIVITY),
+    fn from(f: Flux) -> Entry {
+        match f {
+            Flux::Is(p) => Entry {
+                state: 0,
+                low: p.low,
+                high: p.high,
+                note: p.note,
+            },
+            Flux::Refused(why) => Entry {
+                state: number(why),
+                low: 0,
+                high: 0,
+                note: 0,
+            },
+        }
     }
-}
-
-// What is shown for target i.
-pub(crate) fn target(sheet: &[u8], counts: Counts, i: usize) -> Entry
-    requires { Sound sheet.now counts.fuels counts.pools counts.targets × (i < counts.targets) }
-    ensures { shown_by result ≡ shown_of sheet.now i }
-{
-    let fuels = counts.fuels;
-    let pools = counts.pools;
-    let first_pool = COUNT_SIZE + FUEL_SIZE * fuels + COUNT_SIZE;
-    let target = first_pool + POOL_SIZE * pools + COUNT_SIZE + TARGET_SIZE * i;
-    let pool = first_pool + POOL_SIZE * (two(sheet, target) as usize);
-    let fuel = COUNT_SIZE + FUEL_SIZE * (two(sheet, pool + FUEL_INDEX) as usize);
-    entry_of(flux(enquiry(sheet, fuel, pool, target)))
 }

@@ -1,40 +1,34 @@
-// Bytes of text into a lent buffer. Each function writes from `at` on and answers the place after what it wrote.
+// Text into a lent buffer.
 ghost use Rattle.std.specs.Prelude.{◌+◌, ◌≤◌, length};
-ghost use Rattle.sheet.specs.Report.{decimal, field};
-ghost use Rattle.sheet.specs.Private.{Put};
+ghost use Rattle.sheet.specs.Report.{field};
+ghost use Rattle.sheet.specs.Private.{Writes};
 
-pub(crate) fn put_word(out: &mut [u8], at: usize, word: &[u8]) -> usize
-    requires { at + length word.now ≤ length out.old }
-    ensures { Put out.old at word.now out.new result }
-{
-    let mut i = 0;
-    while i < word.len() {
-        out[at + i] = word[i];
-        i += 1;
-    }
-    at + word.len()
+use itoa::Buffer;
+
+// A buffer whose first `len` bytes are text.
+#[derive(Drop)]
+pub(crate) struct Text<'a> {
+    pub(crate) buffer: &'a mut [u8],
+    pub(crate) len: usize,
 }
 
-// The digits of n, most significant first.
-pub(crate) fn put_decimal(out: &mut [u8], at: usize, n: u32) -> usize
-    requires { at + length (decimal n) ≤ length out.old }
-    ensures { Put out.old at (decimal n) out.new result }
-{
-    if n < 10 {
-        out[at] = (48 + n) as u8;
-        return at + 1;
+impl Text<'_> {
+    pub(crate) fn word(&mut self, word: &[u8])
+        requires { self.old.len + length word.now ≤ length self.old.buffer.now }
+        ensures { Writes self.old word.now self.new }
+    {
+        let end = self.len + word.len();
+        self.buffer[self.len..end].copy_from_slice(word);
+        self.len = end;
     }
-    let last = put_decimal(out, at, n / 10);
-    out[last] = (48 + n % 10) as u8;
-    last + 1
-}
 
-// A number and the byte that ends it.
-pub(crate) fn put_field(out: &mut [u8], at: usize, n: u32, end: u8) -> usize
-    requires { at + length (field n end) ≤ length out.old }
-    ensures { Put out.old at (field n end) out.new result }
-{
-    let last = put_decimal(out, at, n);
-    out[last] = end;
-    last + 1
+    // A number and the byte that ends it.
+    pub(crate) fn field(&mut self, n: u32, end: u8)
+        requires { self.old.len + length (field n end) ≤ length self.old.buffer.now }
+        ensures { Writes self.old (field n end) self.new }
+    {
+        let mut digits = Buffer::new();
+        self.word(digits.format(n).as_bytes());
+        self.word(&[end]);
+    }
 }

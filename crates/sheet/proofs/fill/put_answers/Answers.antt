@@ -9,9 +9,8 @@ use Rattle.sheet.proofs.fill.put_answers.Goals as goal
 
 pub loop-i-init : goal.loop-i-init
 unfolding pasted answers
-loop-i-init c = (omega arith, refl, refl)
+loop-i-init c = refl
 
 pub loop-i-preserved : goal.loop-i-preserved
 loop-i-preserved c =
-    let l = c.loop-i in
-    (omega arith, omega (arith, c.put_entry.auto.out), one_more c.args.sheet.now c.args.out.now l.out _ l.i _ (omega (arith, c.requires.1)) l.invariant.2 c.target.ensures c.put_entry.ensures)
+    one_more c.args.sheet.now.bytes.now c.args.out.now c.loop-i.out _ c.loop-i.i _ (omega arith) c.loop-i.invariant c.target.ensures c.put_answer.ensures

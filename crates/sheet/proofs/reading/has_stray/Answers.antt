@@ -1,20 +1,20 @@
--- `has_stray` meets its contract: no index passed so far is `limit` or more.
+-- `has_stray` meets its contract: the test of `any` is that of `stray`, over the same numbers.
 -- Assumes nothing.
-use mathlib.Core.Path.{sym, ap}
+use mathlib.Core.Path.{◌∙◌}
+use Prim.Native.Nat.{◌+◌, ◌*◌}
 use native.Mathlib.Omega.{arith}
+use lib.Dec.{leb}
+use Rattle.std.proofs.Common.{rules, tests}
+use Rattle.std.proofs.lemmas.Iterator.{YieldsList-from_range}
+use Rattle.std.proofs.lemmas.Iterator.Search.{any_from_yields_List}
 use Rattle.sheet.specs.Bytes.{two}
-use Rattle.sheet.proofs.Sections.{stray_none, stray_more, stray_found}
+use Rattle.sheet.specs.Private.{stray}
+use Rattle.sheet.proofs.Sections.{any_below}
 use Rattle.sheet.proofs.reading.has_stray.Goals as goal
 
-pub loop-i-init : goal.loop-i-init
-loop-i-init c = (omega arith, omega arith, stray_none c.args.sheet.now c.args.first c.args.size c.args.limit)
-
-pub returns-then-limit-index : goal.returns-then-limit-index
-returns-then-limit-index c =
-    let l = c.loop-i in
-    sym (stray_found c.args.sheet.now c.args.first c.args.size c.args.limit c.args.count l.i (omega arith) (omega (arith, ap (two c.args.sheet.now) l.invariant.1)))
-
-pub loop-i-preserved : goal.loop-i-preserved
-loop-i-preserved c =
-    let l = c.loop-i in
-    (omega arith, omega arith, stray_more c.args.sheet.now c.args.first c.args.size c.args.limit l.i l.invariant.2 (omega (arith, ap (two c.args.sheet.now) l.invariant.1)))
+pub returns : goal.returns
+unfolding stray
+returns c =
+    any_from_yields_List (λ i. leb c.args.limit (two c.args.sheet.now (c.args.first + c.args.size * i))) _ _ _ c.any.ensures.ran
+    (YieldsList-from_range 0 c.args.count c.args.count (cc) (omega arith)) (λ x b q k. search (rules, tests))
+    ∙ any_below _ c.args.count

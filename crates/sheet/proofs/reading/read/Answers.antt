@@ -1,26 +1,36 @@
--- `read` meets its contract: a fault of the section, or what follows it.
+-- `read` meets its contract: the fault of the first section that has one, or what follows the three.
 -- Assumes nothing.
 use mathlib.Core.Path.{sym, ◌∙◌}
-use Rattle.sheet.specs.Layout.{fuel_size, most_fuels}
-use Rattle.sheet.specs.Reading.{from_pools}
-use Rattle.sheet.proofs.Sections.{holding, section_refused, section_held, fuels_counted, first_section}
+use Rattle.std.proofs.lemmas.Result.{err_from_is_err_and}
+use Rattle.sheet.proofs.Sections.{fuels_refused, pools_refused, targets_refused, fuels_are, pools_are, targets_are, targets_passed}
 use Rattle.sheet.proofs.reading.read.Goals as goal
 
-pub from_pools-requires : goal.from_pools-requires
-from_pools-requires c =
-    let s = c.args.sheet.now in
-    let h = holding s 0 fuel_size most_fuels _ (sym c.read_section-found.ensures ∙ c.in-Holds.is) in
-    (h.counted ∙ fuels_counted s, h.inside)
+pub returns-in_err-fuels : goal.returns-in_err-fuels
+returns-in_err-fuels c =
+    let r = c.from_residual in
+    let p = err_from_is_err_and r.result r.ensures.1 in
+    rw (p.1, p.2) (fuels_refused c.args.sheet.now _ (sym c.in_err-fuels.ensures.is))
 
-pub returns-in-Refused : goal.returns-in-Refused
-returns-in-Refused c =
-    let s = c.args.sheet.now in
-    section_refused s 0 fuel_size most_fuels _ (from_pools s) (sym c.read_section-found.ensures ∙ c.in-Refused.is)
-    ∙ first_section s
+pub returns-in_err-pools : goal.returns-in_err-pools
+returns-in_err-pools c =
+    let r = c.from_residual-in_err-pools in
+    let p = err_from_is_err_and r.result r.ensures.1 in
+    rw (p.1, p.2) (pools_refused c.args.sheet.now _ (sym c.in_ok-fuels.ensures.is) _ (sym c.in_err-pools.ensures.is))
 
-pub returns-in-Holds : goal.returns-in-Holds
-returns-in-Holds c =
+pub returns-in_err-targets : goal.returns-in_err-targets
+returns-in_err-targets c =
+    let r = c.from_residual-in_err-targets in
+    let p = err_from_is_err_and r.result r.ensures.1 in
+    rw (p.1, p.2) (targets_refused c.args.sheet.now _ (sym c.in_ok-fuels.ensures.is) _ (sym c.in_ok-pools.ensures.is) _ (sym c.in_err-targets.ensures.is))
+
+pub after_sections-requires : goal.after_sections-requires
+after_sections-requires c =
     let s = c.args.sheet.now in
-    c.from_pools.ensures
-    ∙ section_held s 0 fuel_size most_fuels _ (from_pools s) (sym c.read_section-found.ensures ∙ c.in-Holds.is)
-    ∙ first_section s
+    let f = sym c.in_ok-fuels.ensures.is in
+    let p = sym c.in_ok-pools.ensures.is in
+    let t = sym c.in_ok-targets.ensures.is in
+    (fuels_are s _ f, pools_are s _ f _ p, targets_are s _ f _ p _ t, c.in_ok-targets.ensures.holds.inside)
+
+pub returns : goal.returns
+returns c =
+    c.after_sections.ensures ∙ targets_passed c.args.sheet.now _ (sym c.in_ok-fuels.ensures.is) _ (sym c.in_ok-pools.ensures.is) _ (sym c.in_ok-targets.ensures.is)

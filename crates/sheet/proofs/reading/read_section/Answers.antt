@@ -4,18 +4,18 @@ use borrow.Author.Tests.{lt-ltb, le-ltb}
 use Rattle.sheet.specs.Private.{section_of}
 use Rattle.sheet.proofs.reading.read_section.Goals as goal
 
-pub returns-then-sheet-start : goal.returns-then-sheet-start
+pub returns-then-sheet-start-clause-is : goal.returns-then-sheet-start-clause-is
 unfolding section_of
-returns-then-sheet-start c = simp (lt-ltb _ _ c.if-sheet-start.true)
+returns-then-sheet-start-clause-is c = simp (lt-ltb _ _ c.if-sheet-start.true)
 
-pub returns-then-most-count : goal.returns-then-most-count
+pub returns-then-most-count-clause-is : goal.returns-then-most-count-clause-is
 unfolding section_of
-returns-then-most-count c = simp (le-ltb _ _ c.if-sheet-start.false, ← c.two-count.ensures, lt-ltb _ _ c.if-most-count.true)
+returns-then-most-count-clause-is c = simp (le-ltb _ _ c.if-sheet-start.false, ← c.two-count.ensures, lt-ltb _ _ c.if-most-count.true)
 
-pub returns-then-sheet-start-2 : goal.returns-then-sheet-start-2
+pub returns-then-sheet-start-2-clause-is : goal.returns-then-sheet-start-2-clause-is
 unfolding section_of
-returns-then-sheet-start-2 c = simp (le-ltb _ _ c.if-sheet-start.false, ← c.two-count.ensures, le-ltb _ _ c.if-most-count.false, lt-ltb _ _ c.if-sheet-start-2.true)
+returns-then-sheet-start-2-clause-is c = simp (le-ltb _ _ c.if-sheet-start.false, ← c.two-count.ensures, le-ltb _ _ c.if-most-count.false, lt-ltb _ _ c.if-sheet-start-2.true)
 
-pub returns : goal.returns
+pub returns-clause-is : goal.returns-clause-is
 unfolding section_of
-returns c = simp (le-ltb _ _ c.if-sheet-start.false, ← c.two-count.ensures, le-ltb _ _ c.if-most-count.false, le-ltb _ _ c.if-sheet-start-2.false)
+returns-clause-is c = simp (le-ltb _ _ c.if-sheet-start.false, ← c.two-count.ensures, le-ltb _ _ c.if-most-count.false, le-ltb _ _ c.if-sheet-start-2.false)

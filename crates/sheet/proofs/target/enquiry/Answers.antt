@@ -12,7 +12,7 @@ use Rattle.sheet.proofs.target.enquiry.Goals as goal
 pub returns : goal.returns
 unfolding enquiry_at one
 returns c =
-    let h = c.four_signed-height in
+    let h = c.four_signed in
     λ j. record {
       rate = c.two.ensures j;
       absorption = c.two-2.ensures j;
