@@ -1,11 +1,10 @@
 -- Reading section by section: what a passed section tells, what its count or fault leads to, and what an accepted sheet is.
 -- By the outcome of each test in turn. Assumes nothing.
 use mathlib.Core.Path.{◌≡◌, refl, sym, ap, ◌∙◌, fun_ext}
-use mathlib.Core.Bool.{Bool, true, false, ◌||◌, or-true, false≢true}
+use mathlib.Core.Bool.{Bool, true, false, ◌||◌, or_comm, or-false, false≢true}
 use mathlib.Core.List.{List, [], ◌∷◌, ◌++◌}
 use Prim.Native.Nat.{ℕ, zero, suc, ◌+◌, ◌*◌, ◌≤◌, ◌<◌}
 use native.Mathlib.Decide.{dec_lt}
-use native.Mathlib.Numerals.{add-one}
 use native.Mathlib.Nat.{add-zero, zero-add}
 use native.Mathlib.Omega.{arith}
 use lib.ListN.{length}
@@ -29,15 +28,6 @@ neither : (a b : Bool) → (a || b) ≡ false → (a ≡ false) × (b ≡ false)
 neither true b e = absurd (false≢true (sym e))
 neither false b e = (refl, e)
 
-pub some_true : (f : ℕ → Bool) (n i : ℕ) → i < n → f i ≡ true → some f n ≡ true
-unfolding some
-some_true f zero i h e = absurd (omega arith)
-some_true f (suc n) i h e =
-    elim (dec_lt i n) [
-      | yes l ↦ ap (λ (b : Bool). f n || b) (some_true f n i l e) ∙ or-true (f n)
-      | no l ↦ ap (λ (b : Bool). b || some f n) (ap f (omega arith) ∙ e)
-    ]
-
 pub some_false : (f : ℕ → Bool) (n : ℕ) → some f n ≡ false → (i : ℕ) → i < n → f i ≡ false
 unfolding some
 some_false f zero e i h = absurd (omega arith)
@@ -47,10 +37,6 @@ some_false f (suc n) e i h =
       | no l ↦ ap f (omega arith) ∙ (neither (f n) (some f n) e).0
     ]
 
-pub some_more : (f : ℕ → Bool) (n : ℕ) → some f n ≡ false → f n ≡ false → some f (n + 1) ≡ false
-unfolding some
-some_more f n e g = ap (some f) (add-one n) ∙ ap (λ (b : Bool). b || some f n) g ∙ e
-
 pub some_same : (f g : ℕ → Bool) (n : ℕ) → ((i : ℕ) → f i ≡ g i) → some f n ≡ some g n
 some_same f g n h = ap (λ (t : ℕ → Bool). some t n) (fun_ext h)
 
@@ -59,19 +45,13 @@ range_more : (a n : ℕ) → range_with_len a (suc n) ≡ range_with_len a n ++ 
 range_more a zero = ap (λ (k : ℕ). k ∷ []) (sym (add-zero a))
 range_more a (suc n) = ap (λ (x : List ℕ). a ∷ x) (range_more (a + 1) n ∙ ap (λ (k : ℕ). range_with_len (a + 1) n ++ (k ∷ [])) (omega arith))
 
-turned : (a b : Bool) → (a || (b || false)) ≡ (b || a)
-turned true true = refl
-turned true false = refl
-turned false true = refl
-turned false false = refl
-
 pub any_below : (f : ℕ → Bool) (n : ℕ) → list_any f (range_with_len 0 n) ≡ some f n
 unfolding some
 any_below f zero = refl
 any_below f (suc n) =
     ap (list_any f) (range_more 0 n)
     ∙ list_any-append f (range_with_len 0 n) ((0 + n) ∷ [])
-    ∙ rw (any_below f n, zero-add n) (turned (some f n) (f n))
+    ∙ rw (any_below f n, zero-add n, or-false (f n)) (or_comm (some f n) (f n))
 
 -- What a section's count or fault leads to.
 abbrev pub continued : Result ℕ Fault → Outcome → Outcome
@@ -98,25 +78,6 @@ section_refused s start size most why o e = sym (continues s start size most o �
 
 pub section_held : (s : List ℕ) (start size most n : ℕ) (o : Outcome) → section_of s start size most ≡ Ok n → o ≡ reading.section s start size most o
 section_held s start size most n o e = sym (continues s start size most o ∙ ap (λ (x : Result ℕ Fault). continued x o) e)
-
-all_passed :
-    (a b c : Bool) (m n : ℕ)
-    → choose a (Err CutShort) (choose b (Err TooMany) (choose c (Err CutShort) (Ok m))) ≡ Ok n
-    → (b ≡ false) × (c ≡ false) × (m ≡ n)
-all_passed true b c m n e = absurd (let z : ◌≡◌ {A = ℕ} 0 1 = cc in omega arith)
-all_passed false true c m n e = absurd (let z : ◌≡◌ {A = ℕ} 0 1 = cc in omega arith)
-all_passed false false true m n e = absurd (let z : ◌≡◌ {A = ℕ} 0 1 = cc in omega arith)
-all_passed false false false m n e = (refl, refl, cc)
-
-pub holding : (s : List ℕ) (start size most n : ℕ) → section_of s start size most ≡ Ok n → Holding s start size most n
-unfolding section_of
-holding s start size most n e =
-    let p = all_passed (ltb (length s) (start + count_size)) (ltb most (two s start)) (ltb (length s) (start + count_size + size * two s start)) (two s start) n e in
-    record {
-      counted = sym p.2;
-      limited = rw (← p.2) (ltb-false _ _ p.0);
-      inside = rw (← p.2) (ltb-false _ _ p.1);
-    }
 
 -- A test that was passed on the way to state 0.
 passed : (b : Bool) (k : ℕ) (x o : Outcome) → refuse b (refused (suc k)) x ≡ o → o.state ≡ 0 → (b ≡ false) × (x ≡ o)
@@ -230,37 +191,37 @@ module _ (s : List ℕ) where
   unfolding reading_of
   fuels_refused why e = section_refused s 0 fuel_size most_fuels why (from_pools s) e
 
-  module _ (f : ℕ) (held_fuels : section_of s 0 fuel_size most_fuels ≡ Ok f) where
+  module _ (f : ℕ) (fuels_told : section_of s 0 fuel_size most_fuels ≡ Ok f) (fuels : Holding s 0 fuel_size most_fuels f) where
     fuels_passed : from_pools s ≡ reading_of s
     unfolding reading_of
-    fuels_passed = section_held s 0 fuel_size most_fuels f (from_pools s) held_fuels
+    fuels_passed = section_held s 0 fuel_size most_fuels f (from_pools s) fuels_told
 
     pub fuels_are : f ≡ fuels_of s
     unfolding fuels_of
-    fuels_are = (holding s 0 fuel_size most_fuels f held_fuels).counted
+    fuels_are = fuels.counted
 
     pub pools_refused : (why : Fault) → section_of s (pools_start f) pool_size most_pools ≡ Err why → refused (number_of why) ≡ reading_of s
     unfolding from_pools
     pools_refused why e = section_refused s (pools_start f) pool_size most_pools why (from_targets s) e ∙ rw fuels_are fuels_passed
 
-    module _ (p : ℕ) (held_pools : section_of s (pools_start f) pool_size most_pools ≡ Ok p) where
+    module _ (p : ℕ) (pools_told : section_of s (pools_start f) pool_size most_pools ≡ Ok p) (pools : Holding s (pools_start f) pool_size most_pools p) where
       pools_passed : from_targets s ≡ reading_of s
       unfolding from_pools
-      pools_passed = section_held s (pools_start f) pool_size most_pools p (from_targets s) held_pools ∙ rw fuels_are fuels_passed
+      pools_passed = section_held s (pools_start f) pool_size most_pools p (from_targets s) pools_told ∙ rw fuels_are fuels_passed
 
       pub pools_are : p ≡ pools_of s
       unfolding pools_of
-      pools_are = (holding s (pools_start f) pool_size most_pools p held_pools).counted ∙ rw fuels_are
+      pools_are = pools.counted ∙ rw fuels_are
 
       pub targets_refused : (why : Fault) → section_of s (targets_start f p) target_size most_targets ≡ Err why → refused (number_of why) ≡ reading_of s
       unfolding from_targets
       targets_refused why e = section_refused s (targets_start f p) target_size most_targets why (after_sections s) e ∙ rw (fuels_are, pools_are) pools_passed
 
-      module _ (t : ℕ) (held_targets : section_of s (targets_start f p) target_size most_targets ≡ Ok t) where
+      module _ (t : ℕ) (targets_told : section_of s (targets_start f p) target_size most_targets ≡ Ok t) (targets : Holding s (targets_start f p) target_size most_targets t) where
         pub targets_passed : after_sections s ≡ reading_of s
         unfolding from_targets
-        targets_passed = section_held s (targets_start f p) target_size most_targets t (after_sections s) held_targets ∙ rw (fuels_are, pools_are) pools_passed
+        targets_passed = section_held s (targets_start f p) target_size most_targets t (after_sections s) targets_told ∙ rw (fuels_are, pools_are) pools_passed
 
         pub targets_are : t ≡ targets_of s
         unfolding targets_of
-        targets_are = (holding s (targets_start f p) target_size most_targets t held_targets).counted ∙ rw (fuels_are, pools_are)
+        targets_are = targets.counted ∙ rw (fuels_are, pools_are)
