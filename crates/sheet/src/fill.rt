@@ -9,7 +9,7 @@ ghost use Rattle.sheet.specs.Private.{not_filled, returned, pasted};
 use super::layout::ANSWER_SIZE;
 use super::reading::{Accepted, Fault};
 use super::target::Entry;
-use chain::enquiry::Flux;
+use chain::enquiry::{Printed, Turned};
 
 // Why nothing is written: the sheet's fault, or fewer than ten bytes per target.
 #[derive(Clone, Copy)]
@@ -38,7 +38,7 @@ impl From<NotFilled> for u8 {
 }
 
 // The ten bytes of an answer, from `at` on.
-fn put_answer(out: &mut [u8], at: usize, answer: Flux)
+fn put_answer(out: &mut [u8], at: usize, answer: Result<Printed, Turned>)
     requires { at + answer_size ≤ length out.old }
     ensures { out.new ≡ pasted out.old at (ten_bytes (shown answer)) }
 {

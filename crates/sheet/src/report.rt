@@ -10,13 +10,13 @@ use super::layout::MOST_TARGETS;
 use super::reading::{Accepted, Fault};
 use super::target::Entry;
 use super::text::Text;
-use chain::enquiry::Flux;
+use chain::enquiry::{Printed, Turned};
 
 // The room that `report` asks for: 12 bytes for the first line, and 34 for each of the most targets.
 pub const ROOM: usize = 12 + 34 * MOST_TARGETS;
 
 // One target's line.
-fn put_line(text: &mut Text, i: usize, answer: Flux)
+fn put_line(text: &mut Text, i: usize, answer: Result<Printed, Turned>)
     requires { (i < most_targets) × (text.old.len + line_room ≤ length text.old.buffer.now) }
     ensures { Writes text.old (line i (shown answer)) text.new × (text.new.len ≤ text.old.len + line_room) }
 {

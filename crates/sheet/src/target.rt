@@ -11,8 +11,8 @@ use super::layout::{
     TARGET_SIZE, TRANSMISSIVITY,
 };
 use super::reading::Accepted;
-use chain::enquiry::{Enquiry, Flux};
-use chain::flux::{flux, number};
+use chain::enquiry::{Enquiry, Printed, Turned};
+use chain::flux::flux;
 
 // The enquiry whose fuel, pool and target stand at these places.
 fn enquiry(sheet: &[u8], fuel: usize, pool: usize, target: usize) -> Enquiry
@@ -34,7 +34,7 @@ fn enquiry(sheet: &[u8], fuel: usize, pool: usize, target: usize) -> Enquiry
 
 impl Accepted<'_> {
     // The answer to the enquiry of target i.
-    pub(crate) fn target(&self, i: usize) -> Flux
+    pub(crate) fn target(&self, i: usize) -> Result<Printed, Turned>
         requires { i < self.now.counts.targets }
         ensures { shown result ≡ shown_of self.now.bytes.now i }
     {
@@ -56,19 +56,19 @@ pub(crate) struct Entry {
     pub(crate) note: u8,
 }
 
-impl From<Flux> for Entry {
-    ghost from_gives = { λ f e. shown_by e ≡ shown f };
+impl From<Result<Printed, Turned>> for Entry {
+    ghost from_gives = { λ answer e. shown_by e ≡ shown answer };
 
-    fn from(f: Flux) -> Entry {
-        match f {
-            Flux::Is(p) => Entry {
+    fn from(answer: Result<Printed, Turned>) -> Entry {
+        match answer {
+            Ok(p) => Entry {
                 state: 0,
                 low: p.low,
                 high: p.high,
                 note: p.note,
             },
-            Flux::Refused(why) => Entry {
-                state: number(why),
+            Err(why) => Entry {
+                state: u8::from(why),
                 low: 0,
                 high: 0,
                 note: 0,
