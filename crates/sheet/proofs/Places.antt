@@ -6,9 +6,8 @@ use Prim.Native.Nat.{ℕ, ◌+◌, ◌<◌}
 use Rattle.chain.specs.Flux.{flux_of}
 use Rattle.sheet.specs.Layout.{fuel_index_offset, fuel_at, pool_at, target_at}
 use Rattle.sheet.specs.Bytes.{two}
-use Rattle.sheet.specs.Reading.{fuel_index, pool_index}
+use Rattle.sheet.specs.Reading.{Sound, fuel_index, pool_index}
 use Rattle.sheet.specs.Target.{enquiry_at, enquiry_of, shown_of}
-use Rattle.sheet.specs.Private.{Sound}
 
 module _ (s : List ℕ) (f p t : ℕ) (k : Sound s f p t) where
   pool_read : (i : ℕ) → two s (target_at f p i) ≡ pool_index s i

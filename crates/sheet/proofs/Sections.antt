@@ -20,8 +20,8 @@ use Rattle.sheet.specs.declared.reading.Fault.TheVariants.{CutShort, TooMany, Le
 use Rattle.sheet.specs.Layout.{count_size, fuel_size, most_fuels, pool_size, most_pools, target_size, most_targets, fuel_index_offset, pools_start, targets_start, sheet_end}
 use Rattle.sheet.specs.Bytes.{two}
 use Rattle.sheet.specs.Reading as reading
-use Rattle.sheet.specs.Reading.{Outcome, refused, number_of, fuels_of, pools_of, targets_of, fuel_index, pool_index, some, no_fuel, no_pool, after_sections, from_targets, from_pools, reading_of}
-use Rattle.sheet.specs.Private.{choose, section_of, Holding, stray, Sound}
+use Rattle.sheet.specs.Reading.{Sound, Outcome, refused, number_of, fuels_of, pools_of, targets_of, fuel_index, pool_index, some, no_fuel, no_pool, after_sections, from_targets, from_pools, reading_of}
+use Rattle.sheet.specs.Private.{choose, section_of, Holding, stray}
 
 -- A test of the numbers below n: one passes, or none does.
 neither : (a b : Bool) → (a || b) ≡ false → (a ≡ false) × (b ≡ false)

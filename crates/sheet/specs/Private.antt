@@ -1,5 +1,5 @@
 -- Vocabulary of private functions' contracts. No public contract uses it.
-use Rattle.std.specs.Prelude.{◌≡◌, ℕ, ◌+◌, ◌*◌, ◌≤◌, ◌<◌, Bool, true, false, List, ◌++◌, length, take, drop, leb, ltb, Result, Ok, Err}
+use Rattle.std.specs.Prelude.{◌≡◌, ℕ, ◌+◌, ◌*◌, ◌≤◌, Bool, true, false, List, ◌++◌, length, take, drop, leb, ltb, Result, Ok, Err}
 use Rattle.chain.specs.Flux.{Shown}
 use Rattle.sheet.specs.declared.reading.Fault.{Fault}
 use Rattle.sheet.specs.declared.reading.Fault.TheVariants.{CutShort, TooMany}
@@ -7,9 +7,9 @@ use Rattle.sheet.specs.declared.target.Entry.{Entry}
 use Rattle.sheet.specs.declared.fill.NotFilled.{NotFilled}
 use Rattle.sheet.specs.declared.fill.NotFilled.TheVariants as refusal
 use Rattle.sheet.specs.declared.text.Text.{Text}
-use Rattle.sheet.specs.Layout.{count_size, most_targets, sheet_end}
+use Rattle.sheet.specs.Layout.{count_size}
 use Rattle.sheet.specs.Bytes.{two}
-use Rattle.sheet.specs.Reading.{number_of, some, fuels_of, pools_of, targets_of, fuel_index, pool_index}
+use Rattle.sheet.specs.Reading.{number_of, some}
 
 abbrev pub choose : Bool → Result ℕ Fault → Result ℕ Fault → Result ℕ Fault
 choose true a b = a
@@ -31,16 +31,6 @@ pub record Holding (s : List ℕ) (start size most n : ℕ) : Type 0 where
 -- Whether one of `count` indices, `size` bytes apart from `first` on, is `limit` or more.
 unfoldable pub stray : List ℕ → ℕ → ℕ → ℕ → ℕ → Bool
 stray s first size count limit = some (λ i. leb limit (two s (first + size * i))) count
-
--- What reading has found out of an accepted sheet.
-pub record Sound (s : List ℕ) (fuels pools targets : ℕ) : Type 0 where
-  pub fuels_are : fuels ≡ fuels_of s
-  pub pools_are : pools ≡ pools_of s
-  pub targets_are : targets ≡ targets_of s
-  pub few : targets ≤ most_targets
-  pub whole : sheet_end fuels pools targets ≡ length s
-  pub fuel_there : (i : ℕ) → i < pools → fuel_index s i < fuels
-  pub pool_there : (i : ℕ) → i < targets → pool_index s i < pools
 
 abbrev pub shown_by : Entry → Shown
 shown_by e = record { state = e.state; low = e.low; high = e.high; note = e.note }

@@ -1,5 +1,5 @@
 -- Document 01, "Reading a sheet" under "Turned back": what reading gives, on all bytes.
-use Rattle.std.specs.Prelude.{ℕ, zero, suc, ◌+◌, ◌*◌, Bool, false, ◌||◌, List, length, leb, ltb, Result, Ok, Err}
+use Rattle.std.specs.Prelude.{◌≡◌, ℕ, zero, suc, ◌+◌, ◌*◌, ◌≤◌, ◌<◌, Bool, false, ◌||◌, List, length, leb, ltb, Result, Ok, Err}
 use Rattle.pairs.specs.Figures.{refuse}
 use Rattle.sheet.specs.declared.reading.Fault.{Fault}
 use Rattle.sheet.specs.declared.reading.Fault.TheVariants.{CutShort, TooMany, LeftOver, NoFuel, NoPool}
@@ -83,3 +83,13 @@ from_pools s = section s (pools_start (fuels_of s)) pool_size most_pools (from_t
 
 unfoldable pub reading_of : List ℕ → Outcome
 reading_of s = section s 0 fuel_size most_fuels (from_pools s)
+
+-- What reading has found out of an accepted sheet.
+pub record Sound (s : List ℕ) (fuels pools targets : ℕ) : Type 0 where
+  pub fuels_are : fuels ≡ fuels_of s
+  pub pools_are : pools ≡ pools_of s
+  pub targets_are : targets ≡ targets_of s
+  pub few : targets ≤ most_targets
+  pub whole : sheet_end fuels pools targets ≡ length s
+  pub fuel_there : (i : ℕ) → i < pools → fuel_index s i < fuels
+  pub pool_there : (i : ℕ) → i < targets → pool_index s i < pools

@@ -1,8 +1,8 @@
 // Reading a sheet: its three counts, or its first fault. Document 01, "Reading a sheet".
 ghost use Rattle.std.specs.Prelude.{◌≡◌, ℕ, ◌+◌, ◌*◌, ◌≤◌, ◌<◌, length, IfOk, MatchResult, Ok, Err};
 ghost use Rattle.sheet.specs.Layout.{sheet_end};
-ghost use Rattle.sheet.specs.Reading.{number_of, outcome, reading_of, after_sections, fuels_of, pools_of, targets_of};
-ghost use Rattle.sheet.specs.Private.{section_of, Holding, stray, Sound};
+ghost use Rattle.sheet.specs.Reading.{number_of, outcome, reading_of, after_sections, fuels_of, pools_of, targets_of, Sound};
+ghost use Rattle.sheet.specs.Private.{section_of, Holding, stray};
 
 use super::bytes::two;
 use super::layout::{
@@ -104,17 +104,17 @@ pub fn read(sheet: &[u8]) -> Result<Counts, Fault>
     )
 }
 
-// A sheet that reading accepts.
+// A sheet that reading accepts, with its counts.
 #[derive(Clone, Copy)]
-pub(crate) struct Accepted<'a> {
-    pub(crate) bytes: &'a [u8],
-    pub(crate) counts: Counts,
-    ghost sound: { Sound bytes.now counts.fuels counts.pools counts.targets },
+pub struct Accepted<'a> {
+    pub bytes: &'a [u8],
+    pub counts: Counts,
+    pub ghost sound: { Sound bytes.now counts.fuels counts.pools counts.targets },
 }
 
 impl<'a> Accepted<'a> {
     // The sheet, or its first fault.
-    pub(crate) fn read(sheet: &'a [u8]) -> Result<Accepted<'a>, Fault>
+    pub fn read(sheet: &'a [u8]) -> Result<Accepted<'a>, Fault>
         ensures { MatchResult result (λ a. (outcome (Ok a.counts) ≡ reading_of sheet.now) × (a.bytes.now ≡ sheet.now)) (λ why. outcome (Err why) ≡ reading_of sheet.now) }
     {
         let counts = read(sheet)?;
