@@ -50,6 +50,5 @@ decimal_is =
     decimal_by_steps (λ n ds. ds ≡ decimal n) (λ n h. sym (one_digit n h)) (λ n ds h e. ap (λ (x : List ℕ). x ++ ((48 + n % 10) ∷ [])) e ∙ sym (last_digit n h))
 
 -- How many digits there are.
-pub short_field : (k n end : ℕ) → 0 < k → n < 10 ^ k → n < 2 ^ 64 → length (field n end) ≤ k + 1
-short_field k n end some h g =
-    omega (arith, field_length n end, ap length (decimal_is n g), length-decimal-le k n some h g)
+pub few_digits : (k n : ℕ) → 0 < k → n < 10 ^ k → n < 2 ^ 64 → length (decimal n) ≤ k
+few_digits k n some h g = rw (← decimal_is n g) (length-decimal-le k n some h g)

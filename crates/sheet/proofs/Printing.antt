@@ -16,28 +16,28 @@ use Rattle.std.specs.Prelude.{Ok, Err}
 use Rattle.sheet.specs.declared.text.Text.{Text}
 use Rattle.sheet.specs.Reading.{Outcome, outcome, number_of, refused, reading_of}
 use Rattle.sheet.specs.Target.{shown_of}
-use Rattle.sheet.specs.Report.{field, space, line_feed, line, lines, targets_word, sheet_word, figures_text, refused_text, text_after, text_of, report_room, either, printed, report_of}
+use Rattle.sheet.specs.Report.{decimal, field, space, line_feed, line, lines, targets_word, sheet_word, figures_text, refused_text, text_after, text_of, report_room, either, printed, report_of}
 use Rattle.sheet.specs.Private.{pasted, Writes}
 use Rattle.sheet.proofs.Pasting.{then, nothing}
-use Rattle.sheet.proofs.Digits.{short_field}
+use Rattle.sheet.proofs.Digits.{few_digits}
 use Rattle.sheet.proofs.Sections.{by_number}
 
--- Numbers that fit their types have short fields.
+-- Numbers that fit their types have few digits.
 pub record Short (i : ℕ) (a : Shown) : Type 0 where
-  pub index : length (field i space) ≤ 4
-  pub state : length (field a.state space) ≤ 4
-  pub low : length (field a.low space) ≤ 11
-  pub high : length (field a.high space) ≤ 11
-  pub note : length (field a.note line_feed) ≤ 4
+  pub index : length (decimal i) ≤ 3
+  pub state : length (decimal a.state) ≤ 3
+  pub low : length (decimal a.low) ≤ 10
+  pub high : length (decimal a.high) ≤ 10
+  pub note : length (decimal a.note) ≤ 3
 
 pub short : (i : ℕ) (a : Shown) → i < 1000 → a.state < 256 → a.low < 2 ^ 32 → a.high < 2 ^ 32 → a.note < 256 → Short i a
 short i a h s l m n =
     record {
-      index = short_field 3 i space (omega arith) h (omega arith);
-      state = short_field 3 a.state space (omega arith) (omega arith) (omega arith);
-      low = short_field 10 a.low space (omega arith) (omega arith) (omega arith);
-      high = short_field 10 a.high space (omega arith) (omega arith) (omega arith);
-      note = short_field 3 a.note line_feed (omega arith) (omega arith) (omega arith);
+      index = few_digits 3 i (omega arith) h (omega arith);
+      state = few_digits 3 a.state (omega arith) (omega arith) (omega arith);
+      low = few_digits 10 a.low (omega arith) (omega arith) (omega arith);
+      high = few_digits 10 a.high (omega arith) (omega arith) (omega arith);
+      note = few_digits 3 a.note (omega arith) (omega arith) (omega arith);
     }
 
 pub line_put :

@@ -1,6 +1,6 @@
 // Text into a lent buffer.
 ghost use Rattle.std.specs.Prelude.{◌+◌, ◌≤◌, length};
-ghost use Rattle.sheet.specs.Report.{field};
+ghost use Rattle.sheet.specs.Report.{decimal, field};
 ghost use Rattle.sheet.specs.Private.{Writes};
 
 use itoa::Buffer;
@@ -24,7 +24,7 @@ impl Text<'_> {
 
     // A number and the byte that ends it.
     pub(crate) fn field(&mut self, n: u32, end: u8)
-        requires { self.old.len + length (field n end) ≤ length self.old.buffer.now }
+        requires { self.old.len + length (decimal n) + 1 ≤ length self.old.buffer.now }
         ensures { Writes self.old (field n end) self.new }
     {
         let mut digits = Buffer::new();
