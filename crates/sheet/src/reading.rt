@@ -106,15 +106,15 @@ pub fn read(sheet: &[u8]) -> Result<Counts, Fault>
 
 // A sheet that reading accepts, with its counts.
 #[derive(Clone, Copy)]
-pub struct Accepted<'a> {
-    pub bytes: &'a [u8],
-    pub counts: Counts,
-    pub ghost sound: { Sound bytes.now counts.fuels counts.pools counts.targets },
+pub(crate) struct Accepted<'a> {
+    pub(crate) bytes: &'a [u8],
+    pub(crate) counts: Counts,
+    ghost sound: { Sound bytes.now counts.fuels counts.pools counts.targets },
 }
 
 impl<'a> Accepted<'a> {
     // The sheet, or its first fault.
-    pub fn read(sheet: &'a [u8]) -> Result<Accepted<'a>, Fault>
+    pub(crate) fn read(sheet: &'a [u8]) -> Result<Accepted<'a>, Fault>
         ensures { MatchResult result (λ a. (outcome (Ok a.counts) ≡ reading_of sheet.now) × (a.bytes.now ≡ sheet.now)) (λ why. outcome (Err why) ≡ reading_of sheet.now) }
     {
         let counts = read(sheet)?;

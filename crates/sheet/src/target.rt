@@ -34,7 +34,7 @@ fn enquiry(sheet: &[u8], fuel: usize, pool: usize, target: usize) -> Enquiry
 
 impl Accepted<'_> {
     // The answer to the enquiry of target i.
-    pub fn target(&self, i: usize) -> Result<Printed, Turned>
+    pub(crate) fn target(&self, i: usize) -> Result<Printed, Turned>
         requires { i < self.now.counts.targets }
         ensures { shown result ≡ shown_of self.now.bytes.now i }
     {
