@@ -1,21 +1,28 @@
 -- A list of places by its first place: what each definition makes of it, where that place has the number and where it has another; and
 -- induction over the places by these two. Assumes nothing.
 use mathlib.Core.Path.{◌≡◌, refl, sym, ◌∙◌}
-use mathlib.Core.Bool.{true, false, true≢false}
+use mathlib.Core.Bool.{true, false, cond, true≢false}
 use mathlib.Core.List.{List, [], ◌∷◌}
 use Prim.Native.Nat.{ℕ, zero, suc, ◌+◌}
 use native.Mathlib.Decide.{ℕ_discrete}
+use lib.Dec.{eqb}
 use lib.ListN.{get_or}
+use native.Mathlib.Omega.{arith}
 use borrow.Author.Tests.{eq-eqb, ne_eqb}
 use Rattle.register.specs.declared.places.BurningPool.{BurningPool}
 use Rattle.register.specs.Places.{vacant, has}
 use Rattle.register.specs.Sums.{over_burning}
 use Rattle.register.specs.Calls.{replaced}
-use Rattle.register.specs.Private.{first_of}
+use Rattle.std.specs.List.{position_or_len, sum_by}
+use Rattle.std.proofs.lemmas.List.Sums.{sum_by-cons}
 
 -- The pool at a place.
 abbrev pub pool_at : List BurningPool → ℕ → BurningPool
 pool_at ps i = get_or ps i vacant
+
+-- The first place that has a number, counted from 0; how many places there are where none has it.
+abbrev pub first_of : ℕ → List BurningPool → ℕ
+first_of n ps = position_or_len (λ p. eqb p.number n) ps
 
 module _ (n : ℕ) (p : BurningPool) (ps : List BurningPool) where
   -- ---- it has the number
@@ -25,8 +32,7 @@ module _ (n : ℕ) (p : BurningPool) (ps : List BurningPool) where
     has_here = rw (eq-eqb _ _ e, has)
 
     pub first_here : first_of n (p ∷ ps) ≡ zero
-    unfolding first_of
-    first_here = rw (eq-eqb _ _ e, first_of)
+    first_here = rw (eq-eqb _ _ e)
 
     pub replaced_here : (pool : BurningPool) → replaced n pool (p ∷ ps) ≡ pool ∷ ps
     unfolding replaced
@@ -39,8 +45,7 @@ module _ (n : ℕ) (p : BurningPool) (ps : List BurningPool) where
     has_later = rw (ne_eqb _ _ e, has)
 
     pub first_later : first_of n (p ∷ ps) ≡ suc (first_of n ps)
-    unfolding first_of
-    first_later = rw (ne_eqb _ _ e, first_of)
+    first_later = rw (ne_eqb _ _ e) (omega arith)
 
     pub replaced_later : (pool : BurningPool) → replaced n pool (p ∷ ps) ≡ p ∷ replaced n pool ps
     unfolding replaced
@@ -68,10 +73,6 @@ pub has_none : (n : ℕ) → has n [] ≡ false
 unfolding has
 has_none n = refl
 
-pub first_none : (n : ℕ) → first_of n [] ≡ zero
-unfolding first_of
-first_none n = refl
-
 pub replaced_none : (n : ℕ) (pool : BurningPool) → replaced n pool [] ≡ []
 unfolding replaced
 replaced_none n pool = refl
@@ -79,6 +80,18 @@ replaced_none n pool = refl
 pub sum_none : (figure : BurningPool → ℕ) → over_burning figure [] ≡ 0
 unfolding over_burning
 sum_none figure = refl
+
+-- A sum over the burning pools is one over all places, with 0 for a vacant one.
+abbrev pub counted : (BurningPool → ℕ) → BurningPool → ℕ
+counted figure p = cond (eqb p.number 0) 0 (figure p)
+
+pub sum_counted : (figure : BurningPool → ℕ) (ps : List BurningPool) → sum_by (counted figure) ps ≡ over_burning figure ps
+sum_counted figure [] = sym (sum_none figure)
+sum_counted figure (p ∷ ps) =
+    sum_by-cons (counted figure) p ps ∙ elim (ℕ_discrete p.number 0) [
+      | yes e ↦ rw (eq-eqb _ _ e, sum_counted figure ps) (omega (arith, sum_vacant figure p ps e))
+      | no e ↦ rw (ne_eqb _ _ e, sum_counted figure ps) (omega (arith, sum_burning figure p ps e))
+    ]
 
 pub by_number :
     (n : ℕ) (P : List BurningPool → Type 0) → P []

@@ -12,8 +12,7 @@ use Rattle.register.specs.declared.places.BurningPool.{BurningPool}
 use Rattle.register.specs.Places.{vacant, has}
 use Rattle.register.specs.Sums.{over_burning}
 use Rattle.register.specs.Calls.{replaced}
-use Rattle.register.specs.Private.{first_of}
-use Rattle.register.proofs.ByNumber.{pool_at, has_here, has_later, first_here, first_later, replaced_here, replaced_later, sum_vacant, sum_burning, has_none, replaced_none, sum_none, by_number}
+use Rattle.register.proofs.ByNumber.{first_of, pool_at, has_here, has_later, first_here, first_later, replaced_here, replaced_later, sum_vacant, sum_burning, has_none, replaced_none, sum_none, by_number}
 
 module _ (n : ℕ) where
   pub has_place : (ps : List BurningPool) → first_of n ps < length ps → has n ps ≡ true

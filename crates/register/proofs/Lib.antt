@@ -1,4 +1,3 @@
 pub mod ByNumber
-pub mod Rest
 pub mod FirstPlace
 pub mod Outcomes

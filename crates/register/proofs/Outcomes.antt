@@ -1,13 +1,18 @@
 -- The outcomes of a call, in the order of its refusals, from what the search over the places finds. By the outcomes of the tests.
 -- Assumes nothing.
-use mathlib.Core.Path.{◌≡◌, refl, sym, ap, ◌∙◌}
+use mathlib.Core.Path.{◌≡◌, refl, sym, ap, subst, ◌∙◌}
 use mathlib.Core.Bool.{Bool, true, false}
 use Prim.Native.Nat.{ℕ, zero, suc, ◌≤◌, ◌<◌}
 use native.Mathlib.Nat.{lt_of_not-le}
 use native.Mathlib.Decide.{dec_le}
 use native.Mathlib.Omega.{arith}
 use lib.ListN.{length, set}
-use borrow.Author.Tests.{lt-ltb, le-leb, lt-leb}
+use borrow.Author.Tests.{lt-ltb, le-ltb, le-leb, lt-leb}
+use Rattle.std.specs.Prelude.{◌==◌, if◌then◌else◌, position, is_some, IsErr, IsErrAnd}
+use Rattle.std.specs.Option.{ok_or}
+use Rattle.std.proofs.Common.{Result, Ok, Err, Option, Some, None}
+use Rattle.register.specs.declared.calls.CallRefusal.{CallRefusal}
+use Rattle.register.specs.declared.calls.CallRefusal.TheVariants.{Number}
 use Rattle.chain.specs.declared.enquiry.Enquiry.{Enquiry}
 use Rattle.chain.specs.Flux as flux
 use Rattle.chain.specs.Flux.{outside, flux_of}
@@ -15,17 +20,9 @@ use Rattle.register.specs.declared.places.BurningPool.{BurningPool}
 use Rattle.register.specs.declared.places.Register.{Register}
 use Rattle.register.specs.Places.{vacant, has}
 use Rattle.register.specs.Sums.{how_many}
-use Rattle.register.specs.Calls.{Shown, refused, accepted, with_first, lit, light_of, put_out_of}
-use Rattle.register.specs.Private.{first_of}
+use Rattle.register.specs.Calls.{Shown, refusal_number, shown, refused, accepted, with_first, lit, light_of, put_out_of}
+use Rattle.register.proofs.ByNumber.{first_of}
 use Rattle.register.proofs.FirstPlace.{has_place, no_place, replaced_is_set, one_vacant, all_burn}
-
--- A register with a pool in the first place of a number.
-pub first_set :
-    (n : ℕ) (R : Register) (i : ℕ) → i ≡ first_of n R.places → {pool p : BurningPool} (Q : Register) → Q.places ≡ set R.places i p → p ≡ pool
-    → accepted Q ≡ with_first n pool R
-first_set n R i at {pool} Q e is =
-    ap {B = Shown} (λ ps. accepted (record { places = ps }))
-    (e ∙ ap (set R.places i) is ∙ ap (λ j. set R.places j pool) at ∙ sym (replaced_is_set n pool R.places))
 
 -- ---- a pool is lit
 module _ (R : Register) (number : ℕ) (E : Enquiry) where
@@ -52,10 +49,13 @@ module _ (R : Register) (number : ℕ) (E : Enquiry) where
         unfolding light_of
         lit_accepted e = rw (o, h, lt-leb 32 (how_many R) f, e)
 
-  -- The pool as the flux gives it.
-  pub lit_is :
-      (a : flux.Shown) → a ≡ flux_of E → ◌≡◌ {A = BurningPool} (record { number = number; enquiry = E; low = a.low; high = a.high }) (lit number E)
-  lit_is a e = ap (λ (s : flux.Shown). record { number = number; enquiry = E; low = s.low; high = s.high }) e
+-- The pool as the flux gives it.
+pub lit_is :
+    {number : ℕ} (E : Enquiry) (n : ℕ) → n ≡ number → (a : flux.Shown) → a ≡ flux_of E
+    → ◌≡◌ {A = BurningPool} (record { number = n; enquiry = E; low = a.low; high = a.high }) (lit number E)
+lit_is {number} E n o a e =
+    ap (λ m. record { number = m; enquiry = E; low = a.low; high = a.high }) o
+    ∙ ap (λ (s : flux.Shown). record { number = number; enquiry = E; low = s.low; high = s.high }) e
 
 -- ---- a pool is put out
 module _ (R : Register) (number : ℕ) where
@@ -109,17 +109,67 @@ module _ (R : Register) (P : Shown → Type 0) (refusal : (n : ℕ) → 0 < n �
       by_number_test false o = by_burning o (has number R.places) refl
 
 -- ---- by what a search over 32 places finds
-module _ (R : Register) (long : length R.places ≡ 32) (i : ℕ) where
-  module _ (number : ℕ) (at : i ≡ first_of number R.places) where
-    pub burning_by : i < 32 → has number R.places ≡ true
-    burning_by l = has_place number R.places (omega (arith, at, long))
+module _ (R : Register) (long : length R.places ≡ 32) (n : ℕ) (place : Option ℕ) (at : place ≡ position (λ p. p.number == n) R.places) where
+  place_is : (i : ℕ) → place ≡ Some i → (i ≡ first_of n R.places) × (first_of n R.places < length R.places)
+  place_is i e =
+      elim (dec_le (length R.places) (first_of n R.places)) [
+        | yes k ↦ absurd (let none = rw (le-ltb _ _ k) at at in cc)
+        | no k ↦ (let some = rw (lt-ltb _ _ (lt_of_not-le k)) at at in cc, lt_of_not-le k)
+      ]
 
-    pub not_burning_by : 32 ≤ i → has number R.places ≡ false
-    not_burning_by l = no_place number R.places (omega (arith, at, long))
+  among : is_some place ≡ true → first_of n R.places < length R.places
+  among = by_place place refl
+    where
+      by_place : (o : Option ℕ) → place ≡ o → is_some o ≡ true → first_of n R.places < length R.places
+      by_place None e s = absurd (cc s)
+      by_place (Some i) e s = (place_is i e).1
 
-  module _ (at : i ≡ first_of 0 R.places) where
-    pub space_by : i < 32 → how_many R < 32
-    space_by l = let f = one_vacant R.places (omega (arith, at, long)) in omega (arith, f, long)
+  past : is_some place ≡ false → length R.places ≤ first_of n R.places
+  past e =
+      elim (dec_le (length R.places) (first_of n R.places)) [
+        | yes k ↦ k
+        | no k ↦ absurd (let some = rw (lt-ltb _ _ (lt_of_not-le k)) at at in let found = ap is_some some in cc)
+      ]
 
-    pub full_by : 32 ≤ i → 32 ≤ how_many R
-    full_by l = let f = all_burn R.places (omega (arith, at, long)) in omega (arith, f, long)
+  pub burning_there : is_some place ≡ true → has n R.places ≡ true
+  burning_there s = has_place n R.places (among s)
+
+  pub none_there : is_some place ≡ false → has n R.places ≡ false
+  none_there s = no_place n R.places (past s)
+
+  pub set_there : (i : ℕ) → place ≡ Some i → (p pool : BurningPool) → p ≡ pool → accepted (record { places = set R.places i p }) ≡ with_first n pool R
+  set_there i e p pool is =
+      ap {B = Shown} (λ ps. accepted (record { places = ps }))
+      (ap (set R.places i) is ∙ ap (λ j. set R.places j pool) (place_is i e).0 ∙ sym (replaced_is_set n pool R.places))
+
+  pub space_there : n ≡ 0 → is_some place ≡ true → how_many R < 32
+  space_there z s = omega (arith, one_vacant R.places (subst (λ k. first_of k R.places < length R.places) z (among s)), long)
+
+  pub full_there : n ≡ 0 → is_some place ≡ false → 32 ≤ how_many R
+  full_there z s = omega (arith, all_burn R.places (subst (λ k. length R.places ≤ first_of k R.places) z (past s)), long)
+
+-- ---- by what the number comes to, and by a refusal that is handed on
+module _ (number : ℕ) (taken : Result ℕ CallRefusal) (t : taken ≡ (if outside 1 255 number then Err Number else Ok number)) where
+  pub number_refused : (why : CallRefusal) → taken ≡ Err why → (outside 1 255 number ≡ true) × (why ≡ Number)
+  number_refused why e = by_test (outside 1 255 number) refl
+    where
+      by_test : (b : Bool) → outside 1 255 number ≡ b → (outside 1 255 number ≡ true) × (why ≡ Number)
+      by_test true o = let refused = rw o at t in (o, cc)
+      by_test false o = absurd (let passed = rw o at t in cc)
+
+  pub number_taken : (n : ℕ) → taken ≡ Ok n → (outside 1 255 number ≡ false) × (n ≡ number)
+  number_taken n e = by_test (outside 1 255 number) refl
+    where
+      by_test : (b : Bool) → outside 1 255 number ≡ b → (outside 1 255 number ≡ false) × (n ≡ number)
+      by_test false o = let passed = rw o at t in (o, cc)
+      by_test true o = absurd (let refused = rw o at t in cc)
+
+pub handed_on :
+    {why is : CallRefusal} (R : Register) (r : Result Unit CallRefusal) → IsErr r × IsErrAnd r (λ w. w ≡ why) → why ≡ is
+    → shown r R ≡ refused (refusal_number is) R
+handed_on R (Ok _) e i = absurd e.1
+handed_on R (Err w) e i = ap (λ v. shown (Err v) R) (e.1 ∙ i)
+
+pub refused_as : (place : Option ℕ) {why is : CallRefusal} → Err why ≡ ok_or place is → why ≡ is
+refused_as None e = cc
+refused_as (Some i) e = absurd (cc e)

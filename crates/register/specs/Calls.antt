@@ -1,13 +1,12 @@
 -- Request 10: "A pool is lit or put out", on every register and all numbers.
-use Rattle.std.specs.Prelude.{ℕ, true, false, ◌||◌, not, List, [], ◌∷◌, leb, ltb, eqb}
+use Rattle.std.specs.Prelude.{ℕ, true, false, ◌||◌, not, List, [], ◌∷◌, Result, Ok, Err, leb, ltb, eqb}
 use Rattle.pairs.specs.Figures.{refuse}
 use Rattle.chain.specs.declared.enquiry.Enquiry.{Enquiry}
 use Rattle.chain.specs.Flux.{number_of, outside, flux_of}
 use Rattle.register.specs.declared.places.BurningPool.{BurningPool}
 use Rattle.register.specs.declared.places.Register.{Register}
-use Rattle.register.specs.declared.calls.Outcome.{Outcome}
-use Rattle.register.specs.declared.calls.Outcome.TheVariants.{Accepted, NumberRefused, Full, FluxRefused}
-use Rattle.register.specs.declared.calls.Called.{Called}
+use Rattle.register.specs.declared.calls.CallRefusal.{CallRefusal}
+use Rattle.register.specs.declared.calls.CallRefusal.TheVariants.{Number, Full, Flux}
 use Rattle.register.specs.Places.{vacant, has}
 use Rattle.register.specs.Sums.{how_many}
 
@@ -16,15 +15,18 @@ pub record Shown : Type 0 where
   pub state : ℕ
   pub register : Register
 
--- This paper's number for each case of the enum Outcome.
-abbrev pub state_of : Outcome → ℕ
-state_of Accepted = 0
-state_of NumberRefused = 51
-state_of Full = 52
-state_of (FluxRefused why) = number_of why
+-- This paper's number for each refusal, and for what a call is answered.
+abbrev pub refusal_number : CallRefusal → ℕ
+refusal_number Number = 51
+refusal_number Full = 52
+refusal_number (Flux why) = number_of why
 
-abbrev pub shown : Called → Shown
-shown c = record { state = state_of c.outcome; register = c.register }
+abbrev pub state_of : Result Unit CallRefusal → ℕ
+state_of (Ok _) = 0
+state_of (Err why) = refusal_number why
+
+abbrev pub shown : Result Unit CallRefusal → Register → Shown
+shown answer R = record { state = state_of answer; register = R }
 
 -- "All refusals keep the register."
 abbrev pub refused : ℕ → Register → Shown

@@ -1,99 +1,86 @@
-// The two calls: a pool is lit or put out. A register goes in, and comes back beside what is answered.
-ghost use Rattle.std.specs.Prelude.{◌≡◌};
+// The two calls: a pool is lit or put out.
+ghost use Rattle.std.specs.Prelude.{◌≡◌, if◌then◌else◌};
 ghost use Rattle.chain.specs.Flux.{outside};
-ghost use Rattle.register.specs.Calls as calls;
-ghost use Rattle.register.specs.Calls.{state_of, shown, light_of, put_out_of};
+ghost use Rattle.register.specs.Calls.{shown, refusal_number, light_of, put_out_of};
 
-use super::places::{BurningPool, Register, place_of, vacant_place, with_pool};
+use super::places::{BurningPool, Register, VACANT};
 use chain::enquiry::{Enquiry, Flux, Turned};
-use chain::flux::flux;
+use chain::flux;
 
-// What a call is answered: it is accepted; or the number is refused (51), 32 pools burn (52), or the flux is refused.
+// Why a call is refused: the number (51), 32 pools burn (52), or the flux is refused.
 #[derive(Clone, Copy)]
-pub enum Outcome {
-    Accepted,
-    NumberRefused,
+pub enum CallRefusal {
+    Number,
     Full,
-    FluxRefused(Turned),
+    Flux(Turned),
 }
 
-#[derive(Clone, Copy)]
-pub struct Called {
-    pub outcome: Outcome,
-    pub register: Register,
+impl From<Turned> for CallRefusal {
+    ghost use Rattle.std.specs.Prelude.{◌≡◌};
+    ghost use Rattle.register.specs.declared.calls.CallRefusal.TheVariants.{Flux as FluxRefused};
+
+    ghost from_gives = { λ why refusal. refusal ≡ FluxRefused why };
+
+    fn from(why: Turned) -> CallRefusal {
+        CallRefusal::Flux(why)
+    }
 }
 
-// Whether a number is outside 1 to 255.
-fn number_outside(number: u32) -> bool
-    ensures { result ≡ outside 1 255 number }
+impl From<CallRefusal> for u8 {
+    ghost use Rattle.std.specs.Prelude.{◌≡◌};
+    ghost use Rattle.register.specs.Calls.{refusal_number};
+
+    ghost from_gives = { λ why number. number ≡ refusal_number why };
+
+    fn from(why: CallRefusal) -> u8 {
+        match why {
+            CallRefusal::Number => 51,
+            CallRefusal::Full => 52,
+            CallRefusal::Flux(turned) => flux::number(turned),
+        }
+    }
+}
+
+// A pool has a number from 1 to 255.
+fn pool_number(number: u32) -> Result<u8, CallRefusal>
+    ensures { result ≡ (if outside 1 255 number then Err CallRefusal.Number else Ok number) }
 {
-    if number < 1 {
-        return true;
+    if !(1..=255).contains(&number) {
+        return Err(CallRefusal::Number);
     }
-    255 < number
+    Ok(number as u8)
 }
 
-// A refusal gives the register back as it was.
-fn refused(why: Outcome, r: Register) -> Called
-    ensures { shown result ≡ calls.refused (state_of why) r }
-{
-    Called {
-        outcome: why,
-        register: r,
+impl Register {
+    // Lights a pool under a number, with its enquiry, in the first vacant place.
+    pub fn light(&mut self, number: u32, e: Enquiry) -> Result<(), CallRefusal>
+        ensures { shown result self.new ≡ light_of self.old number e }
+    {
+        let number = pool_number(number)?;
+        if self.place_of(number).is_some() {
+            return Err(CallRefusal::Number);
+        }
+        let at = self.place_of(0).ok_or(CallRefusal::Full)?;
+        let p = match flux::flux(e) {
+            Flux::Is(p) => p,
+            Flux::Refused(why) => return Err(CallRefusal::from(why)),
+        };
+        self.places[at] = BurningPool {
+            number,
+            enquiry: e,
+            low: p.low,
+            high: p.high,
+        };
+        Ok(())
     }
-}
 
-fn accepted(changed: Register) -> Called
-    ensures { shown result ≡ calls.accepted changed }
-{
-    Called {
-        outcome: Outcome::Accepted,
-        register: changed,
+    // Puts out the pool of a number: its place is vacant again.
+    pub fn put_out(&mut self, number: u32) -> Result<(), CallRefusal>
+        ensures { shown result self.new ≡ put_out_of self.old number }
+    {
+        let number = pool_number(number)?;
+        let at = self.place_of(number).ok_or(CallRefusal::Number)?;
+        self.places[at] = VACANT;
+        Ok(())
     }
-}
-
-// Lights a pool under a number, with its enquiry, in the first vacant place.
-pub fn light(r: Register, number: u32, e: Enquiry) -> Called
-    ensures { shown result ≡ light_of r number e }
-{
-    if number_outside(number) {
-        return refused(Outcome::NumberRefused, r);
-    }
-    let pool = number as u8;
-    if place_of(r, pool) < 32 {
-        return refused(Outcome::NumberRefused, r);
-    }
-    let at = place_of(r, 0);
-    if 32 <= at {
-        return refused(Outcome::Full, r);
-    }
-    let f = flux(e);
-    match f {
-        Flux::Refused(why) => refused(Outcome::FluxRefused(why), r),
-        Flux::Is(p) => accepted(with_pool(
-            r,
-            at,
-            BurningPool {
-                number: pool,
-                enquiry: e,
-                low: p.low,
-                high: p.high,
-            },
-        )),
-    }
-}
-
-// Puts out the pool of a number: its place is vacant again.
-pub fn put_out(r: Register, number: u32) -> Called
-    ensures { shown result ≡ put_out_of r number }
-{
-    if number_outside(number) {
-        return refused(Outcome::NumberRefused, r);
-    }
-    let pool = number as u8;
-    let at = place_of(r, pool);
-    if 32 <= at {
-        return refused(Outcome::NumberRefused, r);
-    }
-    accepted(with_pool(r, at, vacant_place()))
 }

@@ -12,25 +12,24 @@ pub struct Totals {
     pub highs: u64,
 }
 
-pub fn sums(r: Register) -> Totals
-    ensures { result ≡ sums_of r }
-{
-    let mut burning = 0;
-    let mut lows = 0;
-    let mut highs = 0;
-    let mut i = 0;
-    while i < 32 {
-        let pool = r.places[i];
-        if pool.number != 0 {
-            burning += 1;
-            lows += pool.low as u64;
-            highs += pool.high as u64;
+impl Register {
+    pub fn sums(&self) -> Totals
+        ensures { result ≡ sums_of self.now }
+    {
+        let mut burning = 0;
+        let mut lows = 0;
+        let mut highs = 0;
+        for pool in &self.places {
+            if pool.number != 0 {
+                burning += 1;
+                lows += pool.low as u64;
+                highs += pool.high as u64;
+            }
         }
-        i += 1;
-    }
-    Totals {
-        burning,
-        lows,
-        highs,
+        Totals {
+            burning,
+            lows,
+            highs,
+        }
     }
 }
