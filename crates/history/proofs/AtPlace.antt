@@ -11,8 +11,7 @@ use lib.ListN.{length}
 use Rattle.register.specs.declared.places.BurningPool.{BurningPool}
 use Rattle.register.specs.Places.{has}
 use Rattle.history.specs.Claims.{AsLit}
-use Rattle.register.specs.Private.{first_of}
-use Rattle.register.proofs.ByNumber.{pool_at, has_here, has_later, first_here, first_later, has_none, by_number}
+use Rattle.register.proofs.ByNumber.{first_of, pool_at, has_here, has_later, first_here, first_later, has_none, by_number}
 use Rattle.history.proofs.Lookup.{lookup, lookup_here, lookup_later, Sound}
 
 -- A pool stands at i, and is the one that is looked up.

@@ -1,19 +1,20 @@
 -- The burning pools of sound places in order: each leads all after it; and what holds of every burning pool holds of each of them, and the
 -- other way round. By induction over the places. Assumes nothing.
-use mathlib.Core.Path.{◌≡◌, sym, subst, ◌∙◌}
-use mathlib.Core.Bool.{true, false}
+use mathlib.Core.Path.{◌≡◌, refl, sym, subst, ◌∙◌}
+use mathlib.Core.Bool.{Bool, true, false, ◌||◌}
 use mathlib.Core.List.{List, [], ◌∷◌}
 use Prim.Native.Nat.{ℕ, zero, suc, ◌≤◌, ◌<◌}
 use native.Mathlib.Decide.{ℕ_discrete}
 use native.Mathlib.Omega.{arith}
 use lib.ListN.{length}
-use borrow.Author.Tests.{ltb-true, ltb-false}
+use borrow.Author.Tests.{ltb-true, ltb-false, le-ltb, eq-eqb, ne_eqb}
+use lib.Dec.{ltb}
 use Rattle.register.specs.declared.places.BurningPool.{BurningPool}
 use Rattle.register.specs.Places.{has}
 use Rattle.register.proofs.ByNumber.{pool_at, by_number, not_here, not_later}
 use Rattle.history.proofs.Lookup.{Sound}
 use Rattle.which.specs.WhichPools.{goes_before, put_in, in_order}
-use Rattle.which.proofs.InOrder.{by_numbers, by_lows, by_put_in, in_order_none, in_order_vacant, in_order_burning}
+use Rattle.which.proofs.InOrder.{by_put_in, in_order_none, in_order_vacant, in_order_burning}
 
 -- ---- what holds of each pool
 abbrev pub Each : (BurningPool → Type 0) → List BurningPool → Type 0
@@ -78,6 +79,18 @@ leads_after p q r f g =
 abbrev pub Ranked : List BurningPool → Type 0
 Ranked [] = Unit
 Ranked (p ∷ ps) = Each (Leads p) ps × Ranked ps
+
+-- Which of two goes before.
+module _ (p q : BurningPool) where
+  by_numbers : p.low ≡ q.low → goes_before p q ≡ ltb p.number q.number
+  by_numbers e = rw (le-ltb q.low p.low (omega arith), eq-eqb _ _ e)
+
+  by_lows : (p.low ≡ q.low → ⊥) → goes_before p q ≡ ltb q.low p.low
+  by_lows e = rw (ne_eqb _ _ e) (by_test (ltb q.low p.low))
+    where
+      by_test : (b : Bool) → (b || false) ≡ b
+      by_test true = refl
+      by_test false = refl
 
 module _ (p q : BurningPool) where
   goes_leads : goes_before q p ≡ true → Leads q p

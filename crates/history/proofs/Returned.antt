@@ -1,7 +1,8 @@
--- The claims of the code: `empty`, and after it every register that `light` and `put_out` return, is that of the list of calls, so what is
--- claimed holds of it; and what `sums` returns of it is worked afresh. Two calls return the same set and sums in either order; a pool lit and
+-- The claims of the code: `empty`, and after it every register that `light` and `put_out` leave, is that of the list of calls, so what is
+-- claimed holds of it; and what `sums` returns of it is worked afresh. Two calls leave the same set and sums in either order; a pool lit and
 -- put out again, those of before. The pools that `which_pools` returns are the fewest that put it over. From the contracts, which are the
 -- premises. Assumes nothing.
+use Rattle.std.specs.Prelude.{Result, Ok, Err}
 use mathlib.Core.Path.{◌≡◌, refl, sym, ap, subst, ◌∙◌}
 use mathlib.Core.Option.{Option, none, some}
 use mathlib.Core.List.{List, [], ◌∷◌}
@@ -9,20 +10,22 @@ use Prim.Native.Nat.{ℕ, ◌≤◌, ◌<◌}
 use lib.ListN.{length}
 use Rattle.chain.specs.declared.enquiry.Enquiry.{Enquiry}
 use Rattle.register.specs.declared.places.Register.{Register}
-use Rattle.register.specs.declared.calls.Called.{Called}
+use Rattle.register.specs.declared.calls.CallRefusal.{CallRefusal}
 use Rattle.register.specs.declared.sums.Totals.{Totals}
 use Rattle.register.specs.Places.{no_pools}
 use Rattle.register.specs.Sums.{sums_of}
 use Rattle.register.specs.Calls.{Shown, state_of, shown}
-use Rattle.which.specs.declared.which_pools.FewestPools.{FewestPools}
-use Rattle.which.specs.WhichPools.{which_of}
+use Rattle.arrayvec.specs.ArrayVec.{ArrayVec}
+use Rattle.which.specs.declared.which_pools.NotOver.{NotOver}
+use Rattle.which.specs.WhichPools as which
+use Rattle.which.specs.WhichPools.{FewestPools, which_of}
 use Rattle.history.specs.History.{Call, Light, PutOut, called, after, history, afresh, due}
 use Rattle.history.specs.Claims.{Burns}
 use Rattle.history.specs.OrderClaims.{set_after, SameSetAndSums, SamePoolsAndSums, Crossing}
 use Rattle.history.specs.WhichClaims.{Burning, nth, Explains, GoesBefore, listed}
 use Rattle.history.proofs.Claims.{claims}
 use Rattle.history.proofs.OrderClaims.{order_claims}
-use Rattle.history.proofs.WhichClaims.{which_claims}
+use Rattle.history.proofs.WhichClaims.{listed_is, which_claims}
 
 -- r is what `empty` returns
 pub returned_empty : (r : Register) → r ≡ no_pools → r ≡ after []
@@ -30,75 +33,77 @@ unfolding after
 returned_empty r e = e
 
 module _ (calls : List Call) (r : Register) (reached : r ≡ after calls) where
-  -- c is what `light` or `put_out` returns
-  module _ (c : Called) where
-    pub returned_register : (call : Call) → shown c ≡ called r call → c.register ≡ after (call ∷ calls)
+  -- a is what `light` or `put_out` returns, and s the register that it leaves
+  module _ (a : Result Unit CallRefusal) (s : Register) where
+    pub returned_register : (call : Call) → shown a s ≡ called r call → s ≡ after (call ∷ calls)
     unfolding after
-    returned_register call e = ap (λ (s : Shown). s.register) (e ∙ ap (λ R. called R call) reached)
+    returned_register call e = ap (λ (c : Shown). c.register) (e ∙ ap (λ R. called R call) reached)
 
-    shown_state : (call : Call) → shown c ≡ called r call → state_of c.outcome ≡ (called (after calls) call).state
-    shown_state call e = ap (λ (s : Shown). s.state) (e ∙ ap (λ R. called R call) reached)
+    shown_state : (call : Call) → shown a s ≡ called r call → state_of a ≡ (called (after calls) call).state
+    shown_state call e = ap (λ (c : Shown). c.state) (e ∙ ap (λ R. called R call) reached)
 
-    pub returned_state : (call : Call) → shown c ≡ called r call → state_of c.outcome ≡ due (history calls) call
+    pub returned_state : (call : Call) → shown a s ≡ called r call → state_of a ≡ due (history calls) call
     returned_state call e = shown_state call e ∙ claims.answered calls call
 
   -- t is what `sums` returns
   pub returned_sums : (t : Totals) → t ≡ sums_of r → t ≡ afresh (history calls)
   returned_sums t e = e ∙ ap sums_of reached ∙ claims.sums calls
 
--- c is what `light` or `put_out` returns of any register
-pub returned_kept : (r : Register) (c : Called) (call : Call) → shown c ≡ called r call → 1 ≤ state_of c.outcome → c.register ≡ r
-returned_kept r c call e l =
-    ap (λ (s : Shown). s.register) e ∙ claims.kept r call (subst (λ (s : Shown). 1 ≤ s.state) e l)
+-- a is what `light` or `put_out` returns at any register, and s what it leaves
+pub returned_kept :
+    (r : Register) (a : Result Unit CallRefusal) (s : Register) (call : Call) → shown a s ≡ called r call → 1 ≤ state_of a → s ≡ r
+returned_kept r a s call e l = ap (λ (c : Shown). c.register) e ∙ claims.kept r call (subst (λ (c : Shown). 1 ≤ c.state) e l)
 
 -- t and u are what `sums` returns of two registers
 pub returned_same_sums : (r s : Register) → SamePoolsAndSums r s → (t u : Totals) → t ≡ sums_of r → u ≡ sums_of s → t ≡ u
 returned_same_sums r s same t u e f = e ∙ same.sums ∙ sym f
 
 -- ---- two calls in a row
--- What `light` or `put_out` returns of a register, and then of the one that came back.
+-- What `light` or `put_out` returns and leaves of a register, and then of the one that it left.
 pub record OneThenOther (r : Register) (one other : Call) : Type 0 where
-  pub first : Called
-  pub second : Called
-  pub first_is : shown first ≡ called r one
-  pub second_is : shown second ≡ called first.register other
+  pub first : Result Unit CallRefusal
+  pub between : Register
+  pub second : Result Unit CallRefusal
+  pub last : Register
+  pub first_is : shown first between ≡ called r one
+  pub second_is : shown second last ≡ called between other
 
 module _ (calls : List Call) (r : Register) (reached : r ≡ after calls) where
   module _ {one other : Call} (c : OneThenOther r one other) where
-    first_state : state_of c.first.outcome ≡ (called (after calls) one).state
-    first_state = shown_state calls r reached c.first one c.first_is
+    first_state : state_of c.first ≡ (called (after calls) one).state
+    first_state = shown_state calls r reached c.first c.between one c.first_is
 
-    first_register : c.first.register ≡ after (one ∷ calls)
-    first_register = returned_register calls r reached c.first one c.first_is
+    first_register : c.between ≡ after (one ∷ calls)
+    first_register = returned_register calls r reached c.first c.between one c.first_is
 
-    second_state : state_of c.second.outcome ≡ (called (after (one ∷ calls)) other).state
-    second_state = shown_state (one ∷ calls) c.first.register first_register c.second other c.second_is
+    second_state : state_of c.second ≡ (called (after (one ∷ calls)) other).state
+    second_state = shown_state (one ∷ calls) c.between first_register c.second c.last other c.second_is
 
-    second_register : c.second.register ≡ after (other ∷ one ∷ calls)
-    second_register = returned_register (one ∷ calls) c.first.register first_register c.second other c.second_is
+    second_register : c.last ≡ after (other ∷ one ∷ calls)
+    second_register = returned_register (one ∷ calls) c.between first_register c.second c.last other c.second_is
 
   same_pools_returned :
       {one other : Call} (c : OneThenOther r one other) (those : List Call) (s : Register) → s ≡ after those → SameSetAndSums (other ∷ one ∷ calls) those
-      → SamePoolsAndSums c.second.register s
+      → SamePoolsAndSums c.last s
   same_pools_returned {one} {other} c those s e same =
-      subst (SamePoolsAndSums c.second.register) (sym e)
+      subst (SamePoolsAndSums c.last) (sym e)
       (subst (λ R. SamePoolsAndSums R (after those)) (sym (second_register c)) (order_claims.same_pools (other ∷ one ∷ calls) those same))
 
   module _ (one other : Call) (x : Crossing calls one other) (c : OneThenOther r one other) (d : OneThenOther r other one) where
-    pub returned_alike : state_of d.second.outcome ≡ state_of c.first.outcome
+    pub returned_alike : state_of d.second ≡ state_of c.first
     returned_alike = second_state d ∙ order_claims.answered_alike calls one other x ∙ sym (first_state c)
 
-    pub returned_either_order : SamePoolsAndSums c.second.register d.second.register
+    pub returned_either_order : SamePoolsAndSums c.last d.last
     returned_either_order =
-        same_pools_returned c (one ∷ other ∷ calls) d.second.register (second_register d) (order_claims.either_order calls one other x)
+        same_pools_returned c (one ∷ other ∷ calls) d.last (second_register d) (order_claims.either_order calls one other x)
 
   pub returned_can_be_put_out :
-      (number : ℕ) (E : Enquiry) (c : OneThenOther r (Light number E) (PutOut number)) → state_of c.first.outcome ≡ 0 → state_of c.second.outcome ≡ 0
+      (number : ℕ) (E : Enquiry) (c : OneThenOther r (Light number E) (PutOut number)) → state_of c.first ≡ 0 → state_of c.second ≡ 0
   returned_can_be_put_out number E c e = second_state c ∙ order_claims.can_be_put_out calls number E (sym (first_state c) ∙ e)
 
   pub returned_restored :
       (number : ℕ) (E : Enquiry) → ((F : Enquiry) → Burns r number F → ⊥) → (c : OneThenOther r (Light number E) (PutOut number))
-      → SamePoolsAndSums c.second.register r
+      → SamePoolsAndSums c.last r
   returned_restored number E out c = same_pools_returned c calls r reached (order_claims.restored calls number E (by_pool (set_after calls number) refl))
     where
       by_pool : (p : Option Enquiry) → set_after calls number ≡ p → set_after calls number ≡ none
@@ -106,8 +111,11 @@ module _ (calls : List Call) (r : Register) (reached : r ≡ after calls) where
       by_pool (some F) e = absurd (out F (subst (λ R. Burns R number F) (sym reached) (claims.lit calls number F e)))
 
 -- ---- which pools put it over
--- w is what `which_pools` returns
-module _ (r : Register) (limit : ℕ) (w : FewestPools) (is : w ≡ which_of r limit) where
+-- p is what `which_pools` returns, and w what it shows
+module _ (r : Register) (limit : ℕ) (p : Result (ArrayVec ℕ) NotOver) (is : which.shown p ≡ which_of r limit) where
+  abbrev pub w : FewestPools
+  w = which.shown p
+
   -- of any register; t is what `sums` returns
   module _ (t : Totals) (e : t ≡ sums_of r) where
     pub returned_when_over : limit < t.lows → w.state ≡ 0
@@ -156,9 +164,18 @@ module _ (r : Register) (limit : ℕ) (w : FewestPools) (is : w ≡ which_of r l
         (λ v. ((i : ℕ) → i < length (listed v) → nth (listed v) i ≡ number → ⊥) → (i : ℕ) → i < length (listed v) → GoesBefore calls (nth (listed v) i) number)
         (sym after_calls) (which_claims.left_out calls limit number b)
 
--- w and v are what `which_pools` returns of two registers in which the same pools burn
+-- What two answers show is the same only where they are the same.
+shows_itself : (p q : Result (ArrayVec ℕ) NotOver) → which.shown p ≡ which.shown q → p ≡ q
+shows_itself (Ok p) (Ok q) e =
+    ap (λ ns. Ok (record { items = ns })) (sym (listed_is 0 p.items) ∙ ap listed e ∙ listed_is 0 q.items)
+shows_itself (Ok p) (Err _) e = absurd (cc (ap (λ (w : FewestPools). w.state) e))
+shows_itself (Err _) (Ok q) e = absurd (cc (ap (λ (w : FewestPools). w.state) e))
+shows_itself (Err _) (Err _) e = refl
+
+-- p and q are what `which_pools` returns of two registers in which the same pools burn
 pub returned_same_answer :
     (these those : List Call) → ((number : ℕ) → set_after these number ≡ set_after those number) → (r s : Register) → r ≡ after these → s ≡ after those
-    → (limit : ℕ) (w v : FewestPools) → w ≡ which_of r limit → v ≡ which_of s limit → w ≡ v
-returned_same_answer these those same r s reached reached_too limit w v is is_too =
-    is ∙ ap (λ R. which_of R limit) reached ∙ which_claims.same_answer these those limit same ∙ sym (is_too ∙ ap (λ R. which_of R limit) reached_too)
+    → (limit : ℕ) (p q : Result (ArrayVec ℕ) NotOver) → which.shown p ≡ which_of r limit → which.shown q ≡ which_of s limit → p ≡ q
+returned_same_answer these those same r s reached reached_too limit p q is is_too =
+    shows_itself p q
+    (is ∙ ap (λ R. which_of R limit) reached ∙ which_claims.same_answer these those limit same ∙ sym (is_too ∙ ap (λ R. which_of R limit) reached_too))

@@ -14,8 +14,7 @@ use Rattle.register.specs.declared.places.BurningPool.{BurningPool}
 use Rattle.register.specs.declared.places.Register.{Register}
 use Rattle.register.specs.declared.sums.Totals.{Totals}
 use Rattle.register.specs.Sums.{sums_of}
-use Rattle.which.specs.declared.which_pools.FewestPools.{FewestPools}
-use Rattle.which.specs.WhichPools.{in_order, until_over, in_32_places, which_of}
+use Rattle.which.specs.WhichPools.{FewestPools, in_order, until_over, in_32_places, which_of}
 use Rattle.history.specs.History.{Call, after, figure_of}
 use Rattle.history.specs.Claims.{Burns}
 use Rattle.history.specs.OrderClaims.{set_after}
@@ -35,7 +34,7 @@ use Rattle.history.proofs.Fewest.{same_figures, Numbers, sum_different, sum_abov
 
 -- ---- the numbers in 32 places
 module _ (state : ℕ) (ns : List ℕ) where
-  listed_is : listed (in_32_places state ns) ≡ ns
+  pub listed_is : listed (in_32_places state ns) ≡ ns
   listed_is = take-append_seam ns (replicate (32 - length ns) 0)
 
   nth_in_places : (i : ℕ) → i < length ns → nth (in_32_places state ns).numbers i ≡ nth ns i

@@ -6,8 +6,7 @@ use Rattle.register.specs.declared.places.Register.{Register}
 use Rattle.register.specs.Sums.{sums_of}
 use Rattle.history.specs.History.{Call, after, is_lit, figure_of}
 use Rattle.history.specs.OrderClaims.{set_after}
-use Rattle.which.specs.declared.which_pools.FewestPools.{FewestPools}
-use Rattle.which.specs.WhichPools.{which_of}
+use Rattle.which.specs.WhichPools.{FewestPools, which_of}
 
 -- A pool burns; and the low of its flux, 0 where it is out.
 abbrev pub Burning : List Call → ℕ → Type 0
