@@ -7,6 +7,7 @@ use mathlib.Core.Path.{◌≡◌, refl, sym, ap, subst, ◌∙◌}
 use mathlib.Core.Option.{Option, none, some}
 use mathlib.Core.List.{List, [], ◌∷◌}
 use Prim.Native.Nat.{ℕ, ◌≤◌, ◌<◌}
+use native.Mathlib.Omega.{arith}
 use lib.ListN.{length}
 use Rattle.chain.specs.declared.enquiry.Enquiry.{Enquiry}
 use Rattle.register.specs.declared.places.Register.{Register}
@@ -168,8 +169,8 @@ module _ (r : Register) (limit : ℕ) (p : Result (ArrayVec ℕ) NotOver) (is : 
 shows_itself : (p q : Result (ArrayVec ℕ) NotOver) → which.shown p ≡ which.shown q → p ≡ q
 shows_itself (Ok p) (Ok q) e =
     ap (λ ns. Ok (record { items = ns })) (sym (listed_is 0 p.items) ∙ ap listed e ∙ listed_is 0 q.items)
-shows_itself (Ok p) (Err _) e = absurd (cc (ap (λ (w : FewestPools). w.state) e))
-shows_itself (Err _) (Ok q) e = absurd (cc (ap (λ (w : FewestPools). w.state) e))
+shows_itself (Ok p) (Err _) e = absurd (omega (arith, ap (λ (w : FewestPools). w.state) e))
+shows_itself (Err _) (Ok q) e = absurd (omega (arith, ap (λ (w : FewestPools). w.state) e))
 shows_itself (Err _) (Err _) e = refl
 
 -- p and q are what `which_pools` returns of two registers in which the same pools burn

@@ -131,10 +131,10 @@ module _ (R : Register) (long : length R.places ≡ 32) (n : ℕ) (place : Optio
         | no k ↦ absurd (let some = rw (lt-ltb _ _ (lt_of_not-le k)) at at in let found = ap is_some some in cc)
       ]
 
-  pub burning_there : is_some place ≡ true → has n R.places ≡ true
+  burning_there : is_some place ≡ true → has n R.places ≡ true
   burning_there s = has_place n R.places (among s)
 
-  pub none_there : is_some place ≡ false → has n R.places ≡ false
+  none_there : is_some place ≡ false → has n R.places ≡ false
   none_there s = no_place n R.places (past s)
 
   pub set_there : (i : ℕ) → place ≡ Some i → (p pool : BurningPool) → p ≡ pool → accepted (record { places = set R.places i p }) ≡ with_first n pool R
@@ -163,6 +163,24 @@ module _ (number : ℕ) (taken : Result ℕ CallRefusal) (t : taken ≡ (if outs
       by_test : (b : Bool) → outside 1 255 number ≡ b → (outside 1 255 number ≡ false) × (n ≡ number)
       by_test false o = let passed = rw o at t in (o, cc)
       by_test true o = absurd (let refused = rw o at t in cc)
+
+-- The number is from 1 to 255, and burns or not by the search for it.
+module _
+    (R : Register)
+    (long : length R.places ≡ 32)
+    (number : ℕ)
+    (taken : Result ℕ CallRefusal)
+    (t : taken ≡ (if outside 1 255 number then Err Number else Ok number))
+    (n : ℕ)
+    (passed : taken ≡ Ok n)
+    (place : Option ℕ)
+    (at : place ≡ position (λ p. p.number == n) R.places)
+  where
+    pub burns : is_some place ≡ true → (outside 1 255 number ≡ false) × (has number R.places ≡ true)
+    burns s = let o = number_taken number taken t n passed in (o.0, subst (λ k. has k R.places ≡ true) o.1 (burning_there R long n place at s))
+
+    pub is_out : is_some place ≡ false → (outside 1 255 number ≡ false) × (has number R.places ≡ false)
+    is_out s = let o = number_taken number taken t n passed in (o.0, subst (λ k. has k R.places ≡ false) o.1 (none_there R long n place at s))
 
 pub handed_on :
     {why is : CallRefusal} (R : Register) (r : Result Unit CallRefusal) → IsErr r × IsErrAnd r (λ w. w ≡ why) → why ≡ is

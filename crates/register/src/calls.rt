@@ -4,8 +4,8 @@ ghost use Rattle.chain.specs.Flux.{outside};
 ghost use Rattle.register.specs.Calls.{shown, refusal_number, light_of, put_out_of};
 
 use super::places::{BurningPool, Register, VACANT};
-use chain::enquiry::{Enquiry, Flux, Turned};
-use chain::flux;
+use chain::enquiry::{Enquiry, Turned};
+use chain::flux::flux;
 
 // Why a call is refused: the number (51), 32 pools burn (52), or the flux is refused.
 #[derive(Clone, Copy)]
@@ -36,7 +36,7 @@ impl From<CallRefusal> for u8 {
         match why {
             CallRefusal::Number => 51,
             CallRefusal::Full => 52,
-            CallRefusal::Flux(turned) => flux::number(turned),
+            CallRefusal::Flux(turned) => u8::from(turned),
         }
     }
 }
@@ -61,10 +61,7 @@ impl Register {
             return Err(CallRefusal::Number);
         }
         let at = self.place_of(0).ok_or(CallRefusal::Full)?;
-        let p = match flux::flux(e) {
-            Flux::Is(p) => p,
-            Flux::Refused(why) => return Err(CallRefusal::from(why)),
-        };
+        let p = flux(e)?;
         self.places[at] = BurningPool {
             number,
             enquiry: e,

@@ -5,7 +5,7 @@ ghost use Rattle.register.specs.Places.{no_pools};
 use chain::enquiry::Enquiry;
 
 // A place of the register: the number of the pool that burns there, 0 where none does; its enquiry; and low and high of its flux, W/m².
-// No Option: `has`, `replaced` and `over_burning` of specs/ speak of a vacant place by the number 0, and one search finds both kinds.
+// No Option: `once` and `as_lit` of the claims in `history` tell a vacant place by the number 0, and one search finds a pool or a vacant place.
 #[derive(Clone, Copy)]
 pub struct BurningPool {
     pub number: u8,

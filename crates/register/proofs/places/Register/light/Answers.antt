@@ -2,7 +2,7 @@
 use Rattle.std.proofs.Common.{◌≡◌, refl, sym, ◌∙◌, ap, length, arith}
 use Rattle.chain.specs.Flux.{Shown, shown}
 use Rattle.chain.proofs.Limits.{number_above_0}
-use Rattle.register.proofs.Outcomes.{number_refused, number_taken, handed_on, refused_as, none_there, burning_there, space_there, full_there, set_there, lit_outside, lit_burning, lit_full, lit_refused, lit_accepted, lit_is}
+use Rattle.register.proofs.Outcomes.{number_refused, number_taken, burns, is_out, handed_on, refused_as, space_there, full_there, set_there, lit_outside, lit_burning, lit_full, lit_refused, lit_accepted, lit_is}
 use Rattle.register.proofs.places.Register.light.Goals as goal
 
 pub returns-in_err-number : goal.returns-in_err-number
@@ -13,33 +13,31 @@ returns-in_err-number c =
 pub returns-then-is_some : goal.returns-then-is_some
 returns-then-is_some c =
     let long : length c.args.self.now.places ≡ 32 = omega arith in
-    let o = number_taken c.args.number _ c.pool_number.ensures _ c.in_ok-number.was in
-    let h = burning_there _ long c.in_ok-number.number _ c.place_of.ensures (sym c.is_some.ensures ∙ c.if-is_some.true) in
-    sym (lit_burning _ _ _ o.0 (rw o.1 at h))
+    let o = burns _ long c.args.number _ c.pool_number.ensures _ c.in_ok-number.was _ c.place_of.ensures (sym c.is_some.ensures ∙ c.if-is_some.true) in
+    sym (lit_burning _ _ _ o.0 o.1)
 
 pub returns-in_err-at : goal.returns-in_err-at
 returns-in_err-at c =
     let long : length c.args.self.now.places ≡ 32 = omega arith in
-    let o = number_taken c.args.number _ c.pool_number.ensures _ c.in_ok-number.was in
-    let h = none_there _ long c.in_ok-number.number _ c.place_of.ensures (sym c.is_some.ensures ∙ c.if-is_some.false) in
-    handed_on _ _ c.from_residual-in_err-at.ensures (refused_as _ c.in_err-at.ensures.value)
-    ∙ sym (lit_full _ _ _ o.0 (rw o.1 at h) (full_there _ long 0 _ c.place_of-2.ensures refl (sym c.in_err-at.ensures.variant)))
+    let o = is_out _ long c.args.number _ c.pool_number.ensures _ c.in_ok-number.was _ c.place_of.ensures (sym c.is_some.ensures ∙ c.if-is_some.false) in
+    let full = full_there _ long 0 _ c.place_of-2.ensures refl (sym c.in_err-at.ensures.variant) in
+    handed_on _ _ c.from_residual-in_err-at.ensures (refused_as _ c.in_err-at.ensures.value) ∙ sym (lit_full _ _ _ o.0 o.1 full)
 
-pub returns-in-Refused : goal.returns-in-Refused
-returns-in-Refused c =
+pub returns-in_err-p : goal.returns-in_err-p
+returns-in_err-p c =
     let long : length c.args.self.now.places ≡ 32 = omega arith in
-    let o = number_taken c.args.number _ c.pool_number.ensures _ c.in_ok-number.was in
-    let h = none_there _ long c.in_ok-number.number _ c.place_of.ensures (sym c.is_some.ensures ∙ c.if-is_some.false) in
+    let o = is_out _ long c.args.number _ c.pool_number.ensures _ c.in_ok-number.was _ c.place_of.ensures (sym c.is_some.ensures ∙ c.if-is_some.false) in
     let space = space_there _ long 0 _ c.place_of-2.ensures refl (sym c.in_ok-at.ensures.variant) in
-    let flux_is = sym (ap shown c.in-Refused.is) ∙ c.flux.ensures in
-    rw c.from.ensures (sym (lit_refused _ _ _ o.0 (rw o.1 at h) space _ (number_above_0 c.in-Refused.why) (ap (λ (a : Shown). a.state) (sym flux_is))))
+    let flux_is = sym (ap shown c.in_err-p.was) ∙ c.flux.ensures in
+    handed_on _ _ c.from_residual-in_err-p.ensures refl
+    ∙ sym (lit_refused _ _ _ o.0 o.1 space _ (number_above_0 _) (ap (λ (a : Shown). a.state) (sym flux_is)))
 
 pub returns : goal.returns
 returns c =
     let long : length c.args.self.now.places ≡ 32 = omega arith in
-    let o = number_taken c.args.number _ c.pool_number.ensures _ c.in_ok-number.was in
-    let h = none_there _ long c.in_ok-number.number _ c.place_of.ensures (sym c.is_some.ensures ∙ c.if-is_some.false) in
+    let o = is_out _ long c.args.number _ c.pool_number.ensures _ c.in_ok-number.was _ c.place_of.ensures (sym c.is_some.ensures ∙ c.if-is_some.false) in
     let space = space_there _ long 0 _ c.place_of-2.ensures refl (sym c.in_ok-at.ensures.variant) in
-    let flux_is = sym (ap shown c.in-Is.is) ∙ c.flux.ensures in
-    set_there _ long 0 _ c.place_of-2.ensures _ c.in_ok-at.ensures.ok_part _ _ (lit_is _ _ o.1 _ flux_is)
-    ∙ sym (lit_accepted _ _ _ o.0 (rw o.1 at h) space (ap (λ (a : Shown). a.state) (sym flux_is)))
+    let flux_is = sym (ap shown c.in_ok-p.was) ∙ c.flux.ensures in
+    let number_is = number_taken c.args.number _ c.pool_number.ensures _ c.in_ok-number.was in
+    set_there _ long 0 _ c.place_of-2.ensures _ c.in_ok-at.ensures.ok_part _ _ (lit_is _ _ number_is.1 _ flux_is)
+    ∙ sym (lit_accepted _ _ _ o.0 o.1 space (ap (λ (a : Shown). a.state) (sym flux_is)))
