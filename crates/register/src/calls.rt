@@ -16,7 +16,6 @@ pub enum CallRefusal {
 }
 
 impl From<Turned> for CallRefusal {
-    ghost use Rattle.std.specs.Prelude.{◌≡◌};
     ghost use Rattle.register.specs.declared.calls.CallRefusal.TheVariants.{Flux as FluxRefused};
 
     ghost from_gives = { λ why refusal. refusal ≡ FluxRefused why };
@@ -27,9 +26,6 @@ impl From<Turned> for CallRefusal {
 }
 
 impl From<CallRefusal> for u8 {
-    ghost use Rattle.std.specs.Prelude.{◌≡◌};
-    ghost use Rattle.register.specs.Calls.{refusal_number};
-
     ghost from_gives = { λ why number. number ≡ refusal_number why };
 
     fn from(why: CallRefusal) -> u8 {
