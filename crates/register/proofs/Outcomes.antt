@@ -131,22 +131,22 @@ module _ (R : Register) (long : length R.places ≡ 32) (n : ℕ) (place : Optio
         | no k ↦ absurd (let some = rw (lt-ltb _ _ (lt_of_not-le k)) at at in let found = ap is_some some in cc)
       ]
 
-  burning_there : is_some place ≡ true → has n R.places ≡ true
-  burning_there s = has_place n R.places (among s)
+  burning_by : is_some place ≡ true → has n R.places ≡ true
+  burning_by s = has_place n R.places (among s)
 
-  none_there : is_some place ≡ false → has n R.places ≡ false
-  none_there s = no_place n R.places (past s)
+  not_burning_by : is_some place ≡ false → has n R.places ≡ false
+  not_burning_by s = no_place n R.places (past s)
 
   pub set_there : (i : ℕ) → place ≡ Some i → (p pool : BurningPool) → p ≡ pool → accepted (record { places = set R.places i p }) ≡ with_first n pool R
   set_there i e p pool is =
       ap {B = Shown} (λ ps. accepted (record { places = ps }))
       (ap (set R.places i) is ∙ ap (λ j. set R.places j pool) (place_is i e).0 ∙ sym (replaced_is_set n pool R.places))
 
-  pub space_there : n ≡ 0 → is_some place ≡ true → how_many R < 32
-  space_there z s = omega (arith, one_vacant R.places (subst (λ k. first_of k R.places < length R.places) z (among s)), long)
+  pub space_by : n ≡ 0 → is_some place ≡ true → how_many R < 32
+  space_by z s = omega (arith, one_vacant R.places (subst (λ k. first_of k R.places < length R.places) z (among s)), long)
 
-  pub full_there : n ≡ 0 → is_some place ≡ false → 32 ≤ how_many R
-  full_there z s = omega (arith, all_burn R.places (subst (λ k. length R.places ≤ first_of k R.places) z (past s)), long)
+  pub full_by : n ≡ 0 → is_some place ≡ false → 32 ≤ how_many R
+  full_by z s = omega (arith, all_burn R.places (subst (λ k. length R.places ≤ first_of k R.places) z (past s)), long)
 
 -- ---- by what the number comes to, and by a refusal that is handed on
 module _ (number : ℕ) (taken : Result ℕ CallRefusal) (t : taken ≡ (if outside 1 255 number then Err Number else Ok number)) where
@@ -177,10 +177,10 @@ module _
     (at : place ≡ position (λ p. p.number == n) R.places)
   where
     pub burns : is_some place ≡ true → (outside 1 255 number ≡ false) × (has number R.places ≡ true)
-    burns s = let o = number_taken number taken t n passed in (o.0, subst (λ k. has k R.places ≡ true) o.1 (burning_there R long n place at s))
+    burns s = let o = number_taken number taken t n passed in (o.0, subst (λ k. has k R.places ≡ true) o.1 (burning_by R long n place at s))
 
     pub is_out : is_some place ≡ false → (outside 1 255 number ≡ false) × (has number R.places ≡ false)
-    is_out s = let o = number_taken number taken t n passed in (o.0, subst (λ k. has k R.places ≡ false) o.1 (none_there R long n place at s))
+    is_out s = let o = number_taken number taken t n passed in (o.0, subst (λ k. has k R.places ≡ false) o.1 (not_burning_by R long n place at s))
 
 pub handed_on :
     {why is : CallRefusal} (R : Register) (r : Result Unit CallRefusal) → IsErr r × IsErrAnd r (λ w. w ≡ why) → why ≡ is
