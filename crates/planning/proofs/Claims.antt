@@ -13,7 +13,7 @@ use Rattle.planning.specs.Claims.{Kept, KeptFrom, Answered, Over, Zeros, Claims}
 use Rattle.planning.proofs.Outcomes.{flux_first, over, kept, by_farthest}
 use Rattle.planning.proofs.Nearest.{found, at_most, enough, keeps_each, keeps_all, keeps_farthest, keeps_nearer}
 use Rattle.chain.proofs.Limits.{never_above_19}
-use Rattle.planning.proofs.SameState.{same_state}
+use Rattle.planning.proofs.SameState.{same_state, accepted_at}
 
 refused_zeros : {n : ℕ} → Zeros (refused n)
 refused_zeros = record { decimetres = refl; low = refl; high = refl }
@@ -38,11 +38,8 @@ module _ (S : Scenario) (limit : ℕ) where
       (λ o. absurd (omega (arith, state_of (over S limit o), h))) (λ k. k)
 
   -- ---- an answer
-  accepted_at : Kept S limit 2_000 → (d : ℕ) → 10 ≤ d → d ≤ 2_000 → (flux_at S d).state ≡ 0
-  accepted_at k d l h = same_state S (100 * d) 200_000 (omega arith) (omega arith) (lit≤ tt) (le_refl _) ∙ k.accepted
-
   beyond : Kept S limit 2_000 → (d : ℕ) → 10 ≤ d → T (keeps_from S limit d) → KeptFrom S limit d
-  beyond k d least t x l h = record { accepted = accepted_at k x (le_trans least l) h; high = keeps_each S limit d t x l h }
+  beyond k d least t x l h = record { accepted = accepted_at S x k.accepted (le_trans least l) h; high = keeps_each S limit d t x l h }
 
   before : (d : ℕ) → d ≤ 2_000 → T (keeps_from S limit d) → stand_off S limit ≡ d → 10 < d → limit < (flux_at S (d - 1)).high
   before d most t e l =
@@ -70,7 +67,7 @@ module _ (S : Scenario) (limit : ℕ) where
         smallest = smallest f.most;
         low = refl;
         high = refl;
-        exact = demand_3 (at_distance S (100 * d)) (accepted_at k d f.least f.most);
+        exact = demand_3 (at_distance S (100 * d)) (accepted_at S d k.accepted f.least f.most);
       }
 
   answered : (stand_off_of S limit).state ≡ 0 → Answered S limit (stand_off_of S limit)

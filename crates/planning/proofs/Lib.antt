@@ -8,10 +8,9 @@ pub mod Claims
 pub mod Examples
 pub mod Radius
 pub mod GridLimits
-pub mod Offsets
 pub mod Walk
-pub mod AskedThere
 pub mod PlaceOutcomes
+pub mod AskedThere
 pub mod PlaceClaims
 pub mod PlaceExamples
 pub mod Returned

@@ -1,12 +1,12 @@
 -- The smallest distance from which the limit is kept: what it keeps, what it is at most, and the law that names it without a search.
 -- From the laws of the least number that passes. Assumes nothing.
-use mathlib.Core.Path.{◌≡◌, subst}
+use mathlib.Core.Path.{◌≡◌}
 use Prim.Native.Nat.{ℕ, suc, ◌-◌, ◌≤◌, ◌<◌}
-use native.Mathlib.Nat.{le_refl, lt_of_not-le, not-le_of_lt}
-use native.Mathlib.Decide.{dec_le}
+use native.Mathlib.Nat.{le_refl}
 use native.Mathlib.Omega.{arith}
-use lib.Dec.{T, leb, leb→le, le→leb}
-use lib.Ieee.Fits.{and_i, and_l, and_r}
+use Rattle.std.proofs.lemmas.Bool.Decides.{nat_tests}
+use lib.Dec.{T, leb, leb→le}
+use lib.Ieee.Fits.{and_l, and_r}
 use Rattle.pairs.proofs.Search.{least_within, least_passes, least_bound}
 use Rattle.planning.specs.declared.scenario.Scenario.{Scenario}
 use Rattle.planning.specs.StandOff.{flux_at, keeps, keeps_from, far_enough, stand_off}
@@ -16,23 +16,19 @@ module _ (S : Scenario) (limit : ℕ) where
   -- ---- the limit is kept from d to 2,000 decimetres
   pub keeps_each : (d : ℕ) → T (keeps_from S limit d) → (x : ℕ) → d ≤ x → x ≤ 2_000 → (flux_at S x).high ≤ limit
   unfolding keeps_from keeps
-  keeps_each d t x l h = leb→le (flux_at S x).high limit (each (keeps S limit) d (2_000 - d) t x l (omega arith))
+  keeps_each d t x l h = grind (arith, nat_tests, each (keeps S limit) d (2_000 - d) t x)
 
   pub keeps_all : (d : ℕ) → d ≤ 2_000 → ((x : ℕ) → d ≤ x → x ≤ 2_000 → (flux_at S x).high ≤ limit) → T (keeps_from S limit d)
   unfolding keeps_from keeps
-  keeps_all d h k = all (keeps S limit) d (2_000 - d) (λ x l m. le→leb (flux_at S x).high limit (k x l (omega arith)))
+  keeps_all d h k = all (keeps S limit) d (2_000 - d) (λ x l m. grind (arith, nat_tests, k x))
 
   pub keeps_farthest : (flux_at S 2_000).high ≤ limit → T (keeps_from S limit 2_000)
-  keeps_farthest k = keeps_all 2_000 (le_refl 2_000) (λ x l h. let e : 2_000 ≡ x = omega arith in subst (λ y. (flux_at S y).high ≤ limit) e k)
+  keeps_farthest k = keeps_all 2_000 (le_refl 2_000) (λ x l h. grind arith)
 
   -- One decimetre nearer.
   pub keeps_nearer : (d x : ℕ) → suc x ≡ d → d ≤ 2_000 → T (keeps_from S limit d) → (flux_at S x).high ≤ limit → T (keeps_from S limit x)
   keeps_nearer d x n h t k =
-      keeps_all x (omega arith)
-      (λ y l m. elim (dec_le d y) [
-        | yes b ↦ keeps_each d t y b m
-        | no b ↦ (let e : x ≡ y = omega (arith, lt_of_not-le b) in subst (λ z. (flux_at S z).high ≤ limit) e k)
-      ])
+      keeps_all x (omega arith) (λ y l m. grind (arith, keeps_each d t y))
 
   -- ---- the smallest such distance
   pub record Found : Type 0 where
@@ -57,18 +53,10 @@ module _ (S : Scenario) (limit : ℕ) where
 
   pub enough : (d : ℕ) → 10 ≤ d → T (keeps_from S limit d) → T (far_enough S limit d)
   unfolding far_enough
-  enough d l t = and_i (leb 10 d) _ (le→leb 10 d l) t
+  enough d l t = grind (arith, nat_tests)
 
   pub stand_off_is :
       (d : ℕ) → 10 ≤ d → d ≤ 2_000 → T (keeps_from S limit d) → (10 < d → limit < (flux_at S (d - 1)).high) → stand_off S limit ≡ d
   stand_off_is d l h t before =
       let f = found d h (enough d l t) in
-      let above : stand_off S limit ≤ d = at_most d (enough d l t) in
-      let least : 10 ≤ stand_off S limit = f.least in
-      elim (dec_le d (stand_off S limit)) [
-        | yes k ↦ omega arith
-        | no k ↦ (
-            let nearer : stand_off S limit < d = lt_of_not-le k in
-            absurd (not-le_of_lt (before (omega arith)) (keeps_each (stand_off S limit) f.keeps (d - 1) (omega arith) (omega arith)))
-            )
-      ]
+      grind (arith, at_most d (enough d l t), keeps_each (stand_off S limit) f.keeps (d - 1))

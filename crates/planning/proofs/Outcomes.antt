@@ -1,15 +1,17 @@
 -- The three outcomes of a stand-off, by what the flux shows at 2,000 decimetres: a refusal of its own, 41, or an answer.
 -- By the outcomes of the tests. Assumes nothing.
-use mathlib.Core.Path.{◌≡◌, refl, sym, ap, subst}
+use mathlib.Core.Path.{◌≡◌, refl}
 use Prim.Native.Nat.{ℕ, zero, suc, ◌≤◌, ◌<◌}
 use native.Mathlib.Nat.{lt_of_not-le}
 use native.Mathlib.Decide.{dec_le}
 use native.Mathlib.Omega.{arith}
 use borrow.Author.Tests.{lt-ltb, le-ltb}
-use Rattle.chain.specs.Flux as flux
+use Rattle.std.specs.Prelude.{Ok}
 use Rattle.planning.specs.declared.scenario.Scenario.{Scenario}
-use Rattle.planning.specs.StandOff.{refused, flux_at, stand_off, shown_at, stand_off_of}
+use Rattle.planning.specs.declared.stand_off.PairAt.{PairAt}
+use Rattle.planning.specs.StandOff.{refused, shown, flux_at, stand_off, shown_at, stand_off_of}
 use Rattle.planning.specs.Claims.{Kept, Over}
+use Rattle.planning.proofs.PairAt.{high_of}
 
 module _ (S : Scenario) (limit : ℕ) where
   pub flux_first : (n : ℕ) → 0 < n → (flux_at S 2_000).state ≡ n → stand_off_of S limit ≡ refused n
@@ -37,16 +39,10 @@ module _ (S : Scenario) (limit : ℕ) where
           ]
       by_state (suc n) e = refusal (suc n) (omega arith) e
 
-  -- The last two, of the figures that an accepted flux shows.
-  module _ {high low note : ℕ} (e : record { state = 0; low = low; high = high; note = note } ≡ flux_at S 2_000) where
-    accepted : (flux_at S 2_000).state ≡ 0
-    accepted = ap (λ (s : flux.Shown). s.state) (sym e)
+  -- The last two, of the pair at 2,000 decimetres, where the flux is accepted.
+  module _ {p : PairAt} (there : (shown (Ok p) ≡ shown_at S 2_000) × ((flux_at S 2_000).state ≡ 0)) where
+    pub over_by : limit < p.high → Over S limit
+    over_by h = record { accepted = there.1; high = omega (arith, high_of S 2_000 p there.0) }
 
-    high_is : high ≡ (flux_at S 2_000).high
-    high_is = ap (λ (s : flux.Shown). s.high) e
-
-    pub over_by : limit < high → Over S limit
-    over_by h = record { accepted = accepted; high = subst (λ x. limit < x) high_is h }
-
-    pub kept_by : high ≤ limit → Kept S limit 2_000
-    kept_by h = record { accepted = accepted; high = subst (λ x. x ≤ limit) high_is h }
+    pub kept_by : p.high ≤ limit → Kept S limit 2_000
+    kept_by h = record { accepted = there.1; high = omega (arith, high_of S 2_000 p there.0) }

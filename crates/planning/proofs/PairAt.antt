@@ -1,21 +1,23 @@
 -- A rim distance in decimetres with the pair that the flux shows there. By the fields of what is shown. Assumes nothing.
-use mathlib.Core.Path.{◌≡◌, sym, ap, subst}
+use mathlib.Core.Path.{◌≡◌, refl, ap}
 use Prim.Native.Nat.{ℕ}
-use Rattle.chain.specs.Flux as flux
+use native.Mathlib.Omega.{arith}
+use Rattle.std.specs.Prelude.{Result, Ok, Err, IsOk, MatchResult}
+use Rattle.chain.specs.Flux.{number_of}
+use Rattle.chain.specs.declared.enquiry.Turned.{Turned}
+use Rattle.chain.proofs.Limits.{number_above_0}
 use Rattle.planning.specs.declared.scenario.Scenario.{Scenario}
 use Rattle.planning.specs.declared.stand_off.PairAt.{PairAt}
-use Rattle.planning.specs.declared.stand_off.StandOff.TheVariants.{Is}
 use Rattle.planning.specs.StandOff.{Shown, shown, flux_at, shown_at}
 
-pub pair_there : (S : Scenario) (d : ℕ) (a : flux.Shown) → a ≡ flux_at S d → record { state = 0; decimetres = d; low = a.low; high = a.high } ≡ shown_at S d
-pair_there S d a e = ap (λ (s : flux.Shown). record { state = 0; decimetres = d; low = s.low; high = s.high }) e
+module _ (S : Scenario) (d : ℕ) where
+  pub high_of : (p : PairAt) → shown (Ok p) ≡ shown_at S d → p.high ≡ (flux_at S d).high
+  high_of p e = ap (λ (a : Shown). a.high) e
 
-module _ (S : Scenario) (d : ℕ) (p : PairAt) (e : shown (Is p) ≡ shown_at S d) where
-  pub distance_of : p.decimetres ≡ d
-  distance_of = ap (λ (a : Shown). a.decimetres) e
-
-  pub there : shown (Is p) ≡ shown_at S p.decimetres
-  there = subst (λ x. shown (Is p) ≡ shown_at S x) (sym distance_of) e
-
-  pub high_of : p.high ≡ (flux_at S d).high
-  high_of = ap (λ (a : Shown). a.high) e
+  -- Where the flux is accepted there is a pair.
+  pub pair_there :
+      (r : Result PairAt Turned)
+      → MatchResult r (λ p. (shown (Ok p) ≡ shown_at S d) × ((flux_at S d).state ≡ 0)) (λ why. (flux_at S d).state ≡ number_of why)
+      → (flux_at S d).state ≡ 0 → IsOk r
+  pair_there (Ok p) h z = refl
+  pair_there (Err why) h z = absurd (omega (arith, number_above_0 why, h, z))

@@ -1,7 +1,6 @@
 -- What is claimed of the first free place. By its outcomes, from the laws of the walk, of the flux's own refusal and of the radius.
 -- Assumes nothing.
 use mathlib.Core.Path.{◌≡◌, refl, sym, ap, subst, ◌∙◌}
-use mathlib.Core.Bool.{true}
 use Prim.Native.Nat.{ℕ, suc, ◌+◌, ◌*◌, ◌≤◌, ◌<◌}
 use native.Mathlib.Nat.{le_refl, not-le_of_lt}
 use native.Mathlib.Omega.{arith}
@@ -13,12 +12,11 @@ use Rattle.planning.specs.declared.scenario.Scenario.{Scenario}
 use Rattle.planning.specs.declared.grid.Grid.{Grid}
 use Rattle.planning.specs.Scenario.{at_distance}
 use Rattle.planning.specs.Distance.{radius_of}
-use Rattle.planning.specs.Grid.{grid_outside, squares, centre_distance, rim_distance}
+use Rattle.planning.specs.Grid.{squares, centre_distance, rim_distance}
 use Rattle.planning.specs.FreePlace.{Shown, refused, own_refusal, is_free, shown_at, walked, free_place_of}
 use Rattle.planning.specs.PlaceClaims.{InLimits, Free, FirstFree, NoneFree, PlaceZeros, NeverLonger, PlaceClaims}
 use Rattle.chain.proofs.Limits.{never_above_19}
 use Rattle.planning.proofs.SameState.{never_14}
-use Rattle.planning.proofs.GridLimits.{not_outside}
 use Rattle.planning.proofs.Radius.{area_covered}
 use Rattle.planning.proofs.Walk as walk
 use Rattle.planning.proofs.Walk.{NotFree, nowhere, found, by_walk}
@@ -82,7 +80,7 @@ module _ (S : Scenario) (limit : ℕ) (G : Grid) where
 
   -- What holds of each outcome holds of what is shown: 42, a refusal of the flux, 43, or an answer.
   by_shown :
-      (P : Shown → Type 0) → (grid_outside G ≡ true → P (refused 42)) → (InLimits G → (n : ℕ) → 0 < n → own_refusal S ≡ n → P (refused n))
+      (P : Shown → Type 0) → ((InLimits G → ⊥) → P (refused 42)) → (InLimits G → (n : ℕ) → 0 < n → own_refusal S ≡ n → P (refused n))
       → (NoneFree S limit G → P (refused 43))
       → (InLimits G → (row place : ℕ) → FirstFree S limit G (shown_at S G row place) → P (shown_at S G row place)) → P (free_place_of S limit G)
   unfolding NoFree
@@ -93,15 +91,12 @@ module _ (S : Scenario) (limit : ℕ) (G : Grid) where
       (by_walk S limit G (P (walked S limit G)) (λ n. subst P (sym (nowhere S limit G n)) (none (none_free g z n)))
       (λ row place l k t rows places. subst P (sym (found S limit G row place l k t rows places)) (one g row place (answer z row place l k t rows places)))))
 
-  in_limits_not_42 : InLimits G → grid_outside G ≡ true → ⊥
-  in_limits_not_42 g e = subst T (sym e ∙ not_outside G g) tt
-
   out : (InLimits G → ⊥) → (free_place_of S limit G).state ≡ 42
   out n = by_shown (λ s. s.state ≡ 42) (λ e. refl) (λ g m p e. absurd (n g)) (λ x. absurd (n x.limits)) (λ g row place a. absurd (n g))
 
   only_out : (free_place_of S limit G).state ≡ 42 → InLimits G → ⊥
   only_out =
-      by_shown (λ s. s.state ≡ 42 → InLimits G → ⊥) (λ e h g. in_limits_not_42 g e) (λ g n p e h _. never_above_19 _ 42 (lit≤ tt) (e ∙ h))
+      by_shown (λ s. s.state ≡ 42 → InLimits G → ⊥) (λ n h. n) (λ g n p e h _. never_above_19 _ 42 (lit≤ tt) (e ∙ h))
       (λ x h g. omega (arith, h)) (λ g row place a h _. omega (arith, h))
 
   flux_next : InLimits G → (d n : ℕ) → 1_000 ≤ d → d ≤ 200_000 → (flux_of (at_distance S d)).state ≡ suc n → (free_place_of S limit G).state ≡ suc n
@@ -126,7 +121,7 @@ module _ (S : Scenario) (limit : ℕ) (G : Grid) where
   some : (row place : ℕ) → InLimits G → Free S limit G row place → (free_place_of S limit G).state ≡ 0
   some row place g f =
       let c = f.considered in
-      by_shown (λ s. s.state ≡ 0) (λ e. absurd (in_limits_not_42 g e))
+      by_shown (λ s. s.state ≡ 0) (λ n. absurd (n g))
       (λ g n p e. sym e ∙ own_state S _ c.least c.most ∙ f.accepted)
       (λ x. absurd (not-le_of_lt (x.unfit row place f.there c) f.high)) (λ g row place a. refl)
 

@@ -1,11 +1,11 @@
 -- The outcomes of the first free place, in the order of its refusals: 42, a refusal of the flux, and what the walk shows. By the outcomes of
 -- the tests; the flux is asked at any rim distance in the span, since its state is the same at each. Assumes nothing.
-use mathlib.Core.Path.{◌≡◌, refl, sym, ap, ◌∙◌}
+use mathlib.Core.Path.{◌≡◌, refl, sym, ap, subst, ◌∙◌}
 use mathlib.Core.Bool.{Bool, true, false}
 use Prim.Native.Nat.{ℕ, zero, suc, ◌≤◌, ◌<◌}
 use native.Mathlib.Nat.{le_refl}
 use native.Mathlib.Omega.{arith}
-use lib.Dec.{lit≤}
+use lib.Dec.{T, lit≤}
 use borrow.Author.Tests.{lt-ltb}
 use Rattle.chain.specs.Flux as flux
 use Rattle.chain.specs.Flux.{flux_of}
@@ -19,7 +19,7 @@ use Rattle.planning.specs.FreePlace.{refused, flux_from, own_refusal, walked, fr
 use Rattle.planning.specs.PlaceClaims.{InLimits}
 use Rattle.planning.specs.Private.{InSpan}
 use Rattle.planning.proofs.SameState.{same_state}
-use Rattle.planning.proofs.GridLimits.{in_limits, not_outside}
+use Rattle.planning.proofs.GridLimits.{in_limits, not_outside, is_outside}
 
 -- The flux's own refusal, from any distance in the span.
 pub own_state : (S : Scenario) (d : ℕ) → 1_000 ≤ d → d ≤ 200_000 → own_refusal S ≡ (flux_of (at_distance S d)).state
@@ -37,9 +37,9 @@ module _ (S : Scenario) (rim : RimMillimetres) (i : InSpan rim) (a : flux.Shown)
       (numbers E (limited E (accepted_tested E (ap (λ (s : flux.Shown). s.state) (sym e) ∙ z)))).area
 
 module _ (S : Scenario) (limit : ℕ) (G : Grid) where
-  pub is_42 : grid_outside G ≡ true → free_place_of S limit G ≡ refused 42
+  pub is_42 : (InLimits G → ⊥) → free_place_of S limit G ≡ refused 42
   unfolding free_place_of
-  is_42 e = rw e
+  is_42 n = rw (is_outside G n)
 
   pub own : InLimits G → (n : ℕ) → 0 < n → own_refusal S ≡ n → free_place_of S limit G ≡ refused n
   unfolding free_place_of
@@ -51,7 +51,7 @@ module _ (S : Scenario) (limit : ℕ) (G : Grid) where
 
   -- There is no other.
   pub by_outcome :
-      (P : Type 0) → (grid_outside G ≡ true → P) → (InLimits G → (n : ℕ) → 0 < n → own_refusal S ≡ n → P) → (InLimits G → own_refusal S ≡ 0 → P)
+      (P : Type 0) → ((InLimits G → ⊥) → P) → (InLimits G → (n : ℕ) → 0 < n → own_refusal S ≡ n → P) → (InLimits G → own_refusal S ≡ 0 → P)
       → P
   by_outcome P outside refusal walk = by_grid (grid_outside G) refl
     where
@@ -60,5 +60,5 @@ module _ (S : Scenario) (limit : ℕ) (G : Grid) where
       by_state g (suc n) e = refusal g (suc n) (omega arith) e
 
       by_grid : (b : Bool) → grid_outside G ≡ b → P
-      by_grid true e = outside e
+      by_grid true e = outside (λ g. subst T (sym e ∙ not_outside G g) tt)
       by_grid false e = by_state (in_limits G e) (own_refusal S) refl

@@ -2,9 +2,10 @@
 -- reads the distance, and 16 reads the pool alone, by a law of `chain`: so the tests are the same. Assumes nothing.
 use mathlib.Core.Path.{◌≡◌, refl, ap, ◌∙◌}
 use mathlib.Core.List.{List}
-use Prim.Native.Nat.{ℕ, ◌≤◌}
+use Prim.Native.Nat.{ℕ, ◌*◌, ◌≤◌}
+use native.Mathlib.Nat.{le_refl}
 use native.Mathlib.Omega.{arith}
-use lib.Dec.{T}
+use lib.Dec.{T, lit≤}
 use Rattle.chain.specs.Tests.{Test, first_that_applies}
 use Rattle.chain.specs.Flux.{Shown, refused, fuel_within, accepted, limits, tests, flux_of}
 use Rattle.chain.proofs.FirstThatApplies.{every_test, by_every_test, past_tests, same_after_tests}
@@ -12,6 +13,7 @@ use Rattle.chain.proofs.Limits.{inside, untold, not_told}
 use Rattle.chain.proofs.PoolAlone.{same_flame_test}
 use Rattle.planning.specs.declared.scenario.Scenario.{Scenario}
 use Rattle.planning.specs.Scenario.{at_distance}
+use Rattle.planning.specs.StandOff.{flux_at}
 
 -- The tests at two distances inside the span.
 same : (S : Scenario) (a b : ℕ) → 1_000 ≤ a → a ≤ 200_000 → 1_000 ≤ b → b ≤ 200_000 → tests (at_distance S a) ≡ tests (at_distance S b)
@@ -27,6 +29,10 @@ same_state S a b la ha lb hb =
     let B = at_distance S b in
     same_after_tests refused (λ s t. s.state ≡ t.state) (λ _. refl) (tests (at_distance S a)) _ (accepted B) (λ _. refl)
     ∙ ap (λ (ts : List Test). (first_that_applies refused ts (accepted B)).state) (same S a b la ha lb hb)
+
+-- Where the flux is accepted at 2,000 decimetres, it is from 10 on.
+pub accepted_at : (S : Scenario) (d : ℕ) → (flux_at S 2_000).state ≡ 0 → 10 ≤ d → d ≤ 2_000 → (flux_at S d).state ≡ 0
+accepted_at S d z l h = same_state S (100 * d) 200_000 (omega arith) (omega arith) (lit≤ tt) (le_refl _) ∙ z
 
 -- 14 is not given inside the span: its test does not apply.
 pub never_14 : (S : Scenario) (d : ℕ) → 1_000 ≤ d → d ≤ 200_000 → (flux_of (at_distance S d)).state ≡ 14 → ⊥

@@ -1,47 +1,34 @@
 -- The walk over a grid: what it finds, said without it. A place is free, or it is passed over or over the limit; the walk shows the first
 -- that is free, row by row, or 43 where none is. From the laws of the least number that passes. Assumes nothing.
-use mathlib.Core.Path.{◌≡◌, refl, sym, ap, subst, ◌∙◌}
-use mathlib.Core.Bool.{Bool, true, false, not}
+use mathlib.Core.Path.{◌≡◌, sym, ap, subst, ◌∙◌}
+use mathlib.Core.Bool.{Bool}
 use Prim.Native.Nat.{ℕ, suc, ◌≤◌, ◌<◌}
 use native.Mathlib.Nat.{le_refl, le_of_lt, lt_of_not-le, not-le_of_lt, lt_of_le_of_lt}
 use native.Mathlib.Decide.{dec_le}
 use native.Mathlib.Omega.{arith}
-use lib.Dec.{T, ltb, leb→le, le→leb, ltb→lt, lt→ltb}
-use lib.Ieee.Fits.{and_i, and_l, and_r}
+use Rattle.std.proofs.lemmas.Bool.Decides.{nat_tests}
+use lib.Dec.{T, ltb, ltb→lt, lt→ltb}
 use borrow.Author.Tests.{le-leb, lt-leb}
 use Rattle.pairs.proofs.Search.{least_reached, least_bound, least_first, least_none}
-use Rattle.chain.specs.Flux.{outside}
-use Rattle.chain.proofs.Limits.{between, inside}
 use Rattle.planning.specs.declared.scenario.Scenario.{Scenario}
 use Rattle.planning.specs.declared.grid.Grid.{Grid}
 use Rattle.planning.specs.Grid.{rim_distance}
 use Rattle.planning.specs.FreePlace.{refused, flux_from, is_free, first_in_row, first_row, shown_at, walked}
 use Rattle.planning.specs.PlaceClaims.{Considered, Unfit}
 
-not-true : (b : Bool) → T (not b) → b ≡ false
-not-true false t = refl
-not-true true t = elim t [ ]
-
 module _ (S : Scenario) (limit : ℕ) (G : Grid) where
   -- ---- one place
   pub considered : (row place : ℕ) → T (is_free S limit G row place) → Considered S G row place
   unfolding is_free
-  considered row place t =
-      let d = (rim_distance S G row place).0 in
-      let b = between 1_000 200_000 d (not-true (outside 1_000 200_000 d) (and_l (not (outside 1_000 200_000 d)) _ t)) in
-      record { least = b.low; most = b.high }
+  considered row place t = grind (arith, nat_tests)
 
   pub keeps : (row place : ℕ) → T (is_free S limit G row place) → (flux_from S (rim_distance S G row place)).high ≤ limit
   unfolding is_free
-  keeps row place t =
-      let d = (rim_distance S G row place).0 in
-      leb→le _ limit (and_r (not (outside 1_000 200_000 d)) _ t)
+  keeps row place t = grind (arith, nat_tests)
 
   pub free : (row place : ℕ) → Considered S G row place → (flux_from S (rim_distance S G row place)).high ≤ limit → T (is_free S limit G row place)
   unfolding is_free
-  free row place c k =
-      let d = (rim_distance S G row place).0 in
-      and_i (not (outside 1_000 200_000 d)) _ (rw (inside 1_000 200_000 d c.least c.most) tt) (le→leb _ limit k)
+  free row place c k = grind (arith, nat_tests)
 
   -- Not free: passed over, or over the limit.
   abbrev pub NotFree : ℕ → ℕ → Type 0

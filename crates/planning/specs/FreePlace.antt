@@ -1,14 +1,15 @@
 -- Request 9: the first free place of a grid, from a scenario and a limit in W/m², on all numbers.
-use Rattle.std.specs.Prelude.{ℕ, Bool, ◌&&◌, not, leb, ltb}
+use Rattle.std.specs.Prelude.{ℕ, Bool, ◌&&◌, not, leb, ltb, Result, Ok, Err}
 use Rattle.pairs.specs.Figures.{refuse}
 use Rattle.pairs.specs.Search.{least}
 use Rattle.chain.specs.Flux as flux
-use Rattle.chain.specs.Flux.{number_of, outside, flux_of}
+use Rattle.chain.specs.Flux.{outside, flux_of}
 use Rattle.planning.specs.declared.scenario.Scenario.{Scenario}
 use Rattle.planning.specs.declared.distance.RimMillimetres.{RimMillimetres}
 use Rattle.planning.specs.declared.grid.Grid.{Grid}
-use Rattle.planning.specs.declared.free_place.FreePlace.{FreePlace}
-use Rattle.planning.specs.declared.free_place.FreePlace.TheVariants.{Is, Refused, OutsideLimits, Nowhere}
+use Rattle.planning.specs.declared.free_place.Place.{Place}
+use Rattle.planning.specs.declared.free_place.NoPlace.{NoPlace}
+use Rattle.planning.specs.declared.free_place.NoPlace.TheVariants.{Flux, OutsideLimits, Nowhere}
 use Rattle.planning.specs.Scenario.{at_distance}
 use Rattle.planning.specs.Grid.{grid_outside, rim_distance}
 
@@ -24,12 +25,16 @@ pub record Shown : Type 0 where
 abbrev pub refused : ℕ → Shown
 refused n = record { state = n; row = 0; place = 0; low = 0; high = 0 }
 
--- This paper's number, row, place and pair for each case of the enum FreePlace.
-abbrev pub shown : FreePlace → Shown
-shown (Is p) = record { state = 0; row = p.row; place = p.place; low = p.low; high = p.high }
-shown (Refused why) = refused (number_of why)
-shown OutsideLimits = refused 42
-shown Nowhere = refused 43
+-- The number of a refusal: the flux's own, 42 or 43.
+abbrev pub number_of : NoPlace → ℕ
+number_of (Flux why) = flux.number_of why
+number_of OutsideLimits = 42
+number_of Nowhere = 43
+
+-- This paper's number, row, place and pair for each answer and refusal.
+abbrev pub shown : Result Place NoPlace → Shown
+shown (Ok p) = record { state = 0; row = p.row; place = p.place; low = p.low; high = p.high }
+shown (Err why) = refused (number_of why)
 
 -- What the flux shows at a rim distance.
 abbrev pub flux_from : Scenario → RimMillimetres → flux.Shown

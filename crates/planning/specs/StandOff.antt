@@ -1,12 +1,13 @@
 -- Request 7: the stand-off of a scenario from a limit in W/m², on all numbers.
-use Rattle.std.specs.Prelude.{ℕ, zero, suc, ◌*◌, ◌-◌, Bool, ◌&&◌, leb, ltb}
+use Rattle.std.specs.Prelude.{ℕ, zero, suc, ◌*◌, ◌-◌, Bool, ◌&&◌, leb, ltb, Result, Ok, Err}
 use Rattle.pairs.specs.Figures.{refuse}
 use Rattle.pairs.specs.Search.{least}
 use Rattle.chain.specs.Flux as flux
-use Rattle.chain.specs.Flux.{number_of, flux_of}
+use Rattle.chain.specs.Flux.{flux_of}
 use Rattle.planning.specs.declared.scenario.Scenario.{Scenario}
-use Rattle.planning.specs.declared.stand_off.StandOff.{StandOff}
-use Rattle.planning.specs.declared.stand_off.StandOff.TheVariants.{Is, Refused, OverLimit}
+use Rattle.planning.specs.declared.stand_off.PairAt.{PairAt}
+use Rattle.planning.specs.declared.stand_off.NoStandOff.{NoStandOff}
+use Rattle.planning.specs.declared.stand_off.NoStandOff.TheVariants.{Flux, OverLimit}
 use Rattle.planning.specs.Scenario.{at_distance}
 
 -- State, distance in decimetres, low and high as this paper shows them.
@@ -20,11 +21,15 @@ pub record Shown : Type 0 where
 abbrev pub refused : ℕ → Shown
 refused n = record { state = n; decimetres = 0; low = 0; high = 0 }
 
--- This paper's number, distance and pair for each case of the enum StandOff.
-abbrev pub shown : StandOff → Shown
-shown (Is p) = record { state = 0; decimetres = p.decimetres; low = p.low; high = p.high }
-shown (Refused why) = refused (number_of why)
-shown OverLimit = refused 41
+-- The number of a refusal: the flux's own, or 41.
+abbrev pub number_of : NoStandOff → ℕ
+number_of (Flux why) = flux.number_of why
+number_of OverLimit = 41
+
+-- This paper's number, distance and pair for each answer and refusal.
+abbrev pub shown : Result PairAt NoStandOff → Shown
+shown (Ok p) = record { state = 0; decimetres = p.decimetres; low = p.low; high = p.high }
+shown (Err why) = refused (number_of why)
 
 -- What the flux shows at a rim distance "in whole decimetres".
 abbrev pub flux_at : Scenario → ℕ → flux.Shown

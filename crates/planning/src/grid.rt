@@ -1,11 +1,11 @@
 // A grid of places about a pool, and how far each is from the pool's rim.
-ghost use Rattle.std.specs.Prelude.{◌≡◌, ◌≤◌, ◌<◌, nat_abs, pos, ◌+ℤ◌};
-ghost use Rattle.planning.specs.Distance as distance;
-ghost use Rattle.planning.specs.Grid.{grid_outside, centre_distance};
+ghost use Rattle.std.specs.Prelude.{◌≡◌, ◌≤◌, ◌<◌, nat_abs, pos, ◌+ℤ◌, MatchResult};
+ghost use Rattle.planning.specs.declared.free_place.NoPlace.TheVariants.{OutsideLimits};
+ghost use Rattle.planning.specs.Grid.{centre_distance};
 ghost use Rattle.planning.specs.PlaceClaims.{InLimits};
 
-use super::distance::{CentreMillimetres, RimMillimetres, to_rim, whole_root};
-use super::limits::outside;
+use super::distance::{CentreMillimetres, whole_root};
+use super::free_place::NoPlace;
 
 // Rows of points, all the spacing apart, and the first corner from the pool's centre.
 #[derive(Clone, Copy)]
@@ -21,67 +21,55 @@ pub struct Grid {
     pub north: i32,
 }
 
-// -offset does not fit where the offset is -2^31, so offset + 1 is negated, and the one is added after the cast.
-fn magnitude(offset: i32) -> u32
-    ensures { result ≡ nat_abs offset }
-{
-    if offset < 0 {
-        return ((0 - (offset + 1)) as u32) + 1;
-    }
-    offset as u32
-}
-
-pub(crate) fn grid_outside(g: Grid) -> bool
-    ensures { result ≡ grid_outside g }
-{
-    if outside(g.rows, 1, 64) {
-        return true;
-    }
-    if outside(g.points, 1, 64) {
-        return true;
-    }
-    if outside(g.spacing, 100, 10_000) {
-        return true;
-    }
-    let east = g.east;
-    if outside(magnitude(east), 0, 1_000_000) {
-        return true;
-    }
-    let north = g.north;
-    outside(magnitude(north), 0, 1_000_000)
-}
-
 // How far an offset is from the centre after so many mm more to the east or north.
 fn offset_after(offset: i32, along: u32) -> u32
     requires { (nat_abs offset ≤ 1_000_000) × (along ≤ 630_000) }
-    ensures { result ≡ nat_abs (offset +ℤ pos along) }
+    ensures distance { result ≡ nat_abs (offset +ℤ pos along) }
+    ensures most { result ≤ 1_630_000 }
 {
-    let from = magnitude(offset);
-    if 0 <= offset {
-        return from + along;
-    }
-    if from < along {
-        return along - from;
-    }
-    from - along
+    (offset + along as i32).unsigned_abs()
 }
 
-fn centre_distance(g: Grid, row: u32, place: u32) -> CentreMillimetres
-    requires { InLimits g × (row < 64) × (place < 64) }
-    ensures { result.0 ≡ (centre_distance g row place).0 }
-{
-    let spacing = g.spacing;
-    let east = g.east;
-    let north = g.north;
-    let eastward = offset_after(east, place * spacing) as u64;
-    let northward = offset_after(north, row * spacing) as u64;
-    CentreMillimetres(whole_root(eastward * eastward + northward * northward))
+// A grid to which 42 does not apply.
+#[derive(Clone, Copy)]
+pub(crate) struct GridInLimits {
+    pub(crate) grid: Grid,
+    ghost limits: { InLimits grid },
 }
 
-// The rim distance of a place.
-pub(crate) fn rim_distance(g: Grid, radius: u32, row: u32, place: u32) -> RimMillimetres
-    requires { InLimits g × (row < 64) × (place < 64) }
-    ensures { result.0 ≡ (distance.to_rim (centre_distance g row place) radius).0 }
-{
-    to_rim(centre_distance(g, row, place), radius)
+impl TryFrom<Grid> for GridInLimits {
+    type Error = NoPlace;
+
+    fn try_from(grid: Grid) -> Result<GridInLimits, NoPlace>
+        ensures { MatchResult result (λ g. g.grid ≡ grid) (λ why. (why ≡ OutsideLimits) × (InLimits grid → ⊥)) }
+    {
+        if (1..=64).contains(&grid.rows)
+            && (1..=64).contains(&grid.points)
+            && (100..=10_000).contains(&grid.spacing)
+            && grid.east.unsigned_abs() <= 1_000_000
+            && grid.north.unsigned_abs() <= 1_000_000
+        {
+            Ok(GridInLimits { grid })
+        } else {
+            Err(NoPlace::OutsideLimits)
+        }
+    }
+}
+
+impl GridInLimits {
+    // The centre distance of a place.
+    pub(crate) fn centre_distance(self, row: u32, place: u32) -> CentreMillimetres
+        requires { (row < 64) × (place < 64) }
+        ensures { result.0 ≡ (centre_distance self.grid row place).0 }
+    {
+        let Grid {
+            spacing,
+            east,
+            north,
+            ..
+        } = self.grid;
+        let eastward = u64::from(offset_after(east, place * spacing));
+        let northward = u64::from(offset_after(north, row * spacing));
+        CentreMillimetres(whole_root(eastward * eastward + northward * northward))
+    }
 }

@@ -5,6 +5,5 @@
 mod distance;
 pub mod free_place;
 pub mod grid;
-mod limits;
 pub mod scenario;
 pub mod stand_off;

@@ -4,7 +4,7 @@ ghost use Rattle.planning.specs.Scenario.{at_distance};
 
 use chain::enquiry::Enquiry;
 
-// The whole numbers of an enquiry but the rim distance, in document 01's units.
+// The whole numbers of an enquiry but the rim distance, in document 01's units. Any may be outside its limits: the flux refuses it.
 #[derive(Clone, Copy)]
 pub struct Scenario {
     // burning rate m of a large pool, g/(m²·s)
@@ -25,19 +25,21 @@ pub struct Scenario {
     pub transmissivity: u16,
 }
 
-// The enquiry at a rim distance in mm.
-pub(crate) fn at_distance(s: Scenario, distance: u32) -> Enquiry
-    ensures { result ≡ at_distance s distance }
-{
-    Enquiry {
-        rate: s.rate,
-        absorption: s.absorption,
-        heat: s.heat,
-        area: s.area,
-        method: s.method,
-        distance,
-        face: s.face,
-        height: s.height,
-        transmissivity: s.transmissivity,
+impl Scenario {
+    // The enquiry at a rim distance in mm.
+    pub(crate) fn at_distance(self, distance: u32) -> Enquiry
+        ensures { result ≡ at_distance self distance }
+    {
+        Enquiry {
+            rate: self.rate,
+            absorption: self.absorption,
+            heat: self.heat,
+            area: self.area,
+            method: self.method,
+            distance,
+            face: self.face,
+            height: self.height,
+            transmissivity: self.transmissivity,
+        }
     }
 }

@@ -1,53 +1,48 @@
 -- `nearest` meets its contract: the limit is kept from where the loop stands to the far end of the span.
--- The measure is the distance. Assumes nothing.
-use mathlib.Core.Path.{◌≡◌, sym, ap, ◌∙◌, subst}
+-- Assumes nothing.
+use mathlib.Core.Path.{sym, ap, ◌∙◌}
 use Prim.Native.Nat.{◌-◌, ◌≤◌, ◌<◌}
 use native.Mathlib.Omega.{arith}
-use lib.Dec.{T}
-use Rattle.planning.specs.StandOff.{keeps_from, shown_at}
-use Rattle.planning.proofs.PairAt.{distance_of, there, high_of}
+use lib.Dec.{lit≤}
+use Rattle.planning.specs.StandOff.{flux_at, shown_at}
+use Rattle.planning.proofs.SameState.{accepted_at}
+use Rattle.planning.proofs.PairAt.{high_of, pair_there}
 use Rattle.planning.proofs.Nearest.{keeps_farthest, keeps_nearer, stand_off_is}
 use Rattle.planning.proofs.stand_off.nearest.Goals as goal
 
-pub loop-here-init : goal.loop-here-init
-loop-here-init c =
-    let e = c.requires.farthest_value in
-    let d : c.args.farthest.decimetres ≡ 2_000 = distance_of c.args.s 2_000 c.args.farthest e in
-    let high = high_of c.args.s 2_000 c.args.farthest e in
-    let within : c.args.farthest.high ≤ c.args.limit = c.requires.high_le_limit in (
-      omega arith,
-      omega arith,
-      subst (λ x. T (keeps_from c.args.s c.args.limit x)) (sym d) (keeps_farthest c.args.s c.args.limit (subst (λ x. x ≤ c.args.limit) high within)),
-      there c.args.s 2_000 c.args.farthest e,
-    )
+pub loop-decimetres-init : goal.loop-decimetres-init
+loop-decimetres-init c =
+    record {
+      here = c.requires.farthest_value;
+      kept = keeps_farthest c.args.s c.args.limit c.requires.kept.high;
+      least = lit≤ tt;
+    }
 
-pub returns-then-limit-next : goal.returns-then-limit-next
-returns-then-limit-next c =
-    let l = c.loop-here in
-    let next = c.pair_at-next in
-    let d = l.here.decimetres in
-    let over : c.args.limit < next.result.high = omega arith in
-    let high = high_of c.args.s (d - 1) next.result next.ensures in
-    l.invariant.3 ∙ ap (shown_at c.args.s) (sym (stand_off_is c.args.s c.args.limit d l.invariant.0 l.invariant.1 l.invariant.2 (λ _. subst (λ x. c.args.limit < x) high over)))
+pub unwrap-nearer-requires : goal.unwrap-nearer-requires
+unwrap-nearer-requires c =
+    pair_there c.args.s _ _ c.pair_at.ensures (accepted_at c.args.s _ c.requires.kept.accepted (omega arith) (omega arith))
 
-pub loop-here-preserved : goal.loop-here-preserved
-loop-here-preserved c =
-    let l = c.loop-here in
-    let next = c.pair_at-next in
-    let d = l.here.decimetres in
-    let nearer : next.result.decimetres ≡ d - 1 = distance_of c.args.s (d - 1) next.result next.ensures in
-    let most : d ≤ 2_000 = l.invariant.1 in
-    let here = there c.args.s (d - 1) next.result next.ensures in
-    let high = high_of c.args.s next.result.decimetres next.result here in
-    let within : next.result.high ≤ c.args.limit = omega arith in (
-      omega arith,
-      omega arith,
-      keeps_nearer c.args.s c.args.limit d next.result.decimetres (omega arith) most l.invariant.2 (subst (λ x. x ≤ c.args.limit) high within),
-      here,
-    )
+pub returns-then-limit-nearer : goal.returns-then-limit-nearer
+returns-then-limit-nearer c =
+    let d = c.loop-decimetres.decimetres in
+    let here = c.loop-decimetres.invariant in
+    let there = rw c.unwrap-nearer.ensures at c.pair_at.ensures in
+    let over : c.args.limit < (flux_at c.args.s (d - 1)).high = omega (arith, high_of c.args.s (d - 1) c.unwrap-nearer.result there.0) in
+    here.here ∙ ap (shown_at c.args.s) (sym (stand_off_is c.args.s c.args.limit d here.least (omega arith) here.kept (λ _. over)))
+
+pub loop-decimetres-preserved : goal.loop-decimetres-preserved
+loop-decimetres-preserved c =
+    let d = c.loop-decimetres.decimetres in
+    let there = rw c.unwrap-nearer.ensures at c.pair_at.ensures in
+    let within : (flux_at c.args.s (d - 1)).high ≤ c.args.limit = omega (arith, high_of c.args.s (d - 1) c.unwrap-nearer.result there.0) in
+    record {
+      here = there.0;
+      kept = keeps_nearer c.args.s c.args.limit d (d - 1) (omega arith) (omega arith) c.loop-decimetres.invariant.kept within;
+      least = omega arith;
+    }
 
 pub returns : goal.returns
 returns c =
-    let l = c.loop-here in
-    let last : l.here.decimetres ≤ 10 = omega arith in
-    l.invariant.3 ∙ ap (shown_at c.args.s) (sym (stand_off_is c.args.s c.args.limit l.here.decimetres l.invariant.0 l.invariant.1 l.invariant.2 (λ m. absurd (omega arith))))
+    let d = c.loop-decimetres.decimetres in
+    let here = c.loop-decimetres.invariant in
+    here.here ∙ ap (shown_at c.args.s) (sym (stand_off_is c.args.s c.args.limit d here.least (omega arith) here.kept (λ m. absurd (omega arith))))
