@@ -89,7 +89,7 @@ impl Walk {
         FluxAtRim { rim, flux }
     }
 
-    // Row by row: both loops are left by their label, with the first place that is free.
+    // Row by row. Nested loops left by their label with the found place: document 01 names this form.
     fn first_free(self, first: FluxAtRim) -> Result<Place, NoPlace>
         requires { Asked self.scenario first }
         ensures { shown result ≡ walked self.scenario self.limit self.grid.grid }
