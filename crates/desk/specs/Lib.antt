@@ -1,2 +1,0 @@
--- What the contracts of the desk cite.
-pub mod Input

@@ -1,0 +1,2 @@
+-- Laws of the lines that several answers use.
+pub mod Lines
