@@ -1,11 +1,13 @@
 -- What stands in the bytes of a fill that has room for every target: the figures shown for each. By the laws of the fill.
 -- Assumes nothing.
 use mathlib.Core.Path.{◌≡◌, refl, sym, ap, ◌∙◌}
-use mathlib.Core.List.{List, ◌++◌}
+use mathlib.Core.List.{List, [], ◌++◌}
 use Prim.Native.Nat.{ℕ, zero, suc, ◌+◌, ◌*◌, ◌/◌, ◌%◌, ◌<◌}
 use native.Mathlib.Nat.{add-zero, div-div-eq-div-mul}
 use native.Mathlib.Omega.{arith}
-use lib.ListN.{drop, replicate, length-replicate}
+use lib.ListN.{length, take, drop, replicate, length-replicate}
+use Rattle.std.proofs.Math.Seq.{take-append_seam}
+use Rattle.std.proofs.Common.{append-nil}
 use Rattle.chain.specs.Flux.{Shown}
 use Rattle.sheet.specs.Layout.{most_targets, answer_size}
 use Rattle.sheet.specs.Bytes.{one, two, four, four_bytes}
@@ -14,6 +16,7 @@ use Rattle.sheet.specs.Target.{enquiry_of, shown_of}
 use Rattle.sheet.specs.Lent.{Lent}
 use Rattle.sheet.specs.Fill.{ten_bytes, answers, fill_of}
 use Rattle.sheet.proofs.Sections.{refused_none, few_targets}
+use Rattle.sheet.proofs.Filling.{answers_length}
 use Rattle.sheet.proofs.Lending.{filled_with, ample}
 use Rattle.sheet.proofs.Own.{cut, same_one, same_four, own_place}
 use Rattle.drawing.specs.declared.figures.Ends.TheVariants.{Answered}
@@ -35,9 +38,6 @@ unfolding fill_of answers
 filled s =
     ample answer_size (answers s) (reading_of s) (refused_none s) refl blank
     (omega (arith, few_targets s, length-replicate {A = ℕ} (answer_size * most_targets) 0))
-
-pub number_filled : (s : List ℕ) → (fill_of s blank).number ≡ (reading_of s).state
-number_filled s = sym (ap (λ (f : Lent ℕ). f.number) (filled s))
 
 -- ---- the figures in ten bytes
 by_digits :
@@ -78,12 +78,30 @@ unfolding group_in group_at shown_of
 group_read s rest n i h =
     ap group_of (ends_read (answers s n ++ rest) (answer_size * i) (shown_of s i) (own_place s n i rest h) (small (enquiry_of s i)))
 
--- All groups of a sheet, from the bytes that the fill leaves in that buffer.
+-- The group of ten bytes is that of the answer that they are.
+pub answer_read : (b answer : List ℕ) (n : ℕ) → cut b (answer_size * n) answer_size ≡ cut answer 0 answer_size → group_of (ends (shown_in answer 0)) ≡ group_in b n
+unfolding group_in shown_in
+answer_read b answer n e =
+    let at = answer_size * n in
+    let state : one b at ≡ one answer 0 = ap (one b) (sym (add-zero at)) ∙ same_one b answer at 0 answer_size e 0 (omega arith) in
+    let low = same_four b answer at 0 answer_size e 1 (omega arith) in
+    let high = same_four b answer at 0 answer_size e 5 (omega arith) in
+    let note = same_one b answer at 0 answer_size e 9 (omega arith) in
+    sym (λ i. group_of (ends (record { state = state i; low = low i; high = high i; note = note i })))
+
+-- All groups of a sheet, from the bytes that the fill leaves for its targets in that buffer.
 pub groups_read :
-    (s b : List ℕ) (count : ℕ) → b ≡ (fill_of s blank).elements → count ≡ (reading_of s).targets
-    → listed (group_in b) count ≡ listed (group_at s) (reading_of s).targets
+    (s b : List ℕ) (count : ℕ) → b ≡ (fill_of s blank).elements → (reading_of s).targets ≡ count
+    → listed (group_in (take (answer_size * count) b)) (length (take (answer_size * count) b) / answer_size) ≡ listed (group_at s) (reading_of s).targets
 groups_read s b count e c =
     let n = (reading_of s).targets in
     let rest = drop (answer_size * n) blank in
-    rw (c, e ∙ sym (ap (λ (f : Lent ℕ). f.elements) (filled s)))
-    (listed_same (group_in (answers s n ++ rest)) (group_at s) n (group_read s rest n))
+    let long = answers_length s n in
+    let front : take (answer_size * count) b ≡ answers s n =
+    ap (λ k. take (answer_size * k) b) (sym c)
+    ∙ ap (take (answer_size * n)) (e ∙ sym (ap (λ (f : Lent ℕ). f.elements) (filled s)))
+    ∙ ap (λ k. take k (answers s n ++ rest)) (sym long)
+    ∙ take-append_seam (answers s n) rest in
+    let all : length (answers s n) / answer_size ≡ n = omega (arith, long) in
+    rw (front, all)
+    (listed_same (group_in (answers s n)) (group_at s) n (λ i h. ap (λ b. group_in b i) (sym (append-nil (answers s n))) ∙ group_read s [] n i h))

@@ -1,11 +1,20 @@
 -- Request 4: the groups of a sheet, by value.
-use Rattle.std.specs.Prelude.{ℕ, zero, suc, ◌-◌, List, [], ◌∷◌, ◌++◌, length, replicate}
+use Rattle.std.specs.Prelude.{ℕ, zero, suc, ◌-◌, List, [], ◌∷◌, ◌++◌, length, replicate, Ok, Err}
+use Rattle.std.specs.declared.result.Result.{Result}
+use Rattle.arrayvec.specs.ArrayVec.{ArrayVec, array_vec_len}
 use Rattle.sheet.specs.Layout.{most_targets}
-use Rattle.sheet.specs.Reading.{reading_of}
+use Rattle.sheet.specs.declared.reading.Fault.{Fault}
+use Rattle.sheet.specs.Reading.{number_of, reading_of}
 use Rattle.sheet.specs.Target.{shown_of}
 use Rattle.drawing.specs.declared.figures.Group.{Group}
-use Rattle.drawing.specs.declared.groups.Groups.{Groups}
 use Rattle.drawing.specs.Figures.{ends, three_zeros, group_of}
+
+-- The number of the sheet's refusal, or 0; how many targets it has; and the group of each, in their order, with three zeros past
+-- the last one.
+pub record Groups : Type 0 where
+  pub number : ℕ
+  pub count : ℕ
+  pub groups : List Group
 
 -- The group of target i.
 unfoldable pub group_at : List ℕ → ℕ → Group
@@ -29,3 +38,8 @@ groups_of s =
       count = (reading_of s).targets;
       groups = padded (listed (group_at s) (reading_of s).targets);
     }
+
+-- This paper's number, count and groups for each case of the answer.
+abbrev pub groups_shown : Result (ArrayVec Group) Fault → Groups
+groups_shown (Ok gs) = record { number = 0; count = array_vec_len gs; groups = padded gs.items }
+groups_shown (Err why) = record { number = number_of why; count = 0; groups = padded [] }

@@ -1,11 +1,11 @@
 // One enquiry in floats, and the group of a target.
 ghost use Rattle.std.specs.Prelude.{◌≡◌};
-ghost use Rattle.drawing.specs.Figures.{ends_of, three_zeros, group_of};
+ghost use Rattle.drawing.specs.Figures.{ends_of, group_of};
 
-use chain::enquiry::{Enquiry, Flux};
-use chain::flux::{flux, number};
+use chain::enquiry::Enquiry;
+use chain::flux::flux;
 
-// Low and high in W/m², or the number of the refusal.
+// Low and high in W/m², or the number of the refusal. Document 01 names this form, so it is no Result.
 #[derive(Clone, Copy)]
 pub enum Ends {
     Answered(f64, f64),
@@ -13,7 +13,7 @@ pub enum Ends {
 }
 
 // Low, middle and high in W/m².
-#[derive(Clone, Copy)]
+#[derive(Clone, Copy, Default)]
 pub struct Group {
     pub low: f64,
     pub middle: f64,
@@ -24,25 +24,13 @@ pub struct Group {
 pub fn ends_of(e: Enquiry) -> Ends
     ensures { result ≡ ends_of e }
 {
-    let f = flux(e);
-    match f {
-        Flux::Is(p) => Ends::Answered(p.low as f64, p.high as f64),
-        Flux::Refused(why) => Ends::Refused(number(why)),
+    match flux(e) {
+        Ok(p) => Ends::Answered(p.low as f64, p.high as f64),
+        Err(why) => Ends::Refused(u8::from(why)),
     }
 }
 
-// The group of a refusal.
-pub(crate) fn three_zeros() -> Group
-    ensures { result ≡ three_zeros }
-{
-    Group {
-        low: 0.0,
-        middle: 0.0,
-        high: 0.0,
-    }
-}
-
-// The group of these ends.
+// The group of these ends: three zeros for a refusal.
 pub fn group_of(e: Ends) -> Group
     ensures { result ≡ group_of e }
 {
@@ -52,6 +40,6 @@ pub fn group_of(e: Ends) -> Group
             middle: (low + high) / 2.0,
             high,
         },
-        Ends::Refused(_) => three_zeros(),
+        Ends::Refused(_) => Group::default(),
     }
 }

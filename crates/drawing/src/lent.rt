@@ -6,7 +6,7 @@ ghost use Rattle.drawing.specs.Groups.{listed};
 ghost use Rattle.drawing.specs.Lent.{group_size, floats, laid_out, fill_groups_of};
 ghost use Rattle.drawing.specs.Private.{group_in};
 
-use super::answers::{ROOM, group_in, targets};
+use super::answers::{ANSWER_SIZE, ROOM, groups_in, targets};
 use super::figures::Group;
 use sheet::fill::fill;
 
@@ -17,34 +17,31 @@ fn put_group(out: &mut [f64], at: usize, g: Group)
     requires { at + group_size ≤ length out.old }
     ensures { out.new ≡ pasted out.old at (floats g) }
 {
-    out[at] = g.low;
-    out[at + 1] = g.middle;
-    out[at + 2] = g.high;
+    out[at..at + GROUP_SIZE].copy_from_slice(&[g.low, g.middle, g.high]);
 }
 
-// The groups of the first answers, from the front of a slice with room for them.
-fn put_groups(answers: &[u8], count: usize, out: &mut [f64])
-    requires { (count ≤ most_targets) × (answer_size * most_targets ≤ length answers.now) × (group_size * count ≤ length out.old) }
-    ensures { out.new ≡ pasted out.old 0 (laid_out (listed (group_in answers.now) count)) }
+// The floats of these groups, from the front of a slice with room for them.
+fn put_groups(groups: &[Group], out: &mut [f64])
+    requires { group_size * length groups.now ≤ length out.old }
+    ensures { out.new ≡ pasted out.old 0 (laid_out groups.now) }
 {
-    let mut i = 0;
-    while i < count {
-        put_group(out, GROUP_SIZE * i, group_in(answers, i));
-        i += 1;
+    for (i, g) in groups.iter().enumerate() {
+        put_group(out, GROUP_SIZE * i, *g);
     }
 }
 
 // Writes three floats per target of the sheet and returns 0; or writes nothing and returns the number of the refusal.
-#[unsafe(no_mangle)]
-pub extern "C" fn fill_groups(sheet: &[u8], out: &mut [f64]) -> u8
+pub fn fill_groups(sheet: &[u8], out: &mut [f64]) -> u8
     ensures { (result ≡ (fill_groups_of sheet.now out.old).number) × (out.new ≡ (fill_groups_of sheet.now out.old).elements) }
 {
-    let count = targets(sheet);
-    if out.len() < GROUP_SIZE * count {
+    let Ok(targets) = targets(sheet) else {
+        return fill(sheet, &mut []);
+    };
+    if out.len() < GROUP_SIZE * targets {
         return 31;
     }
     let mut answers = [0u8; ROOM];
-    let number = fill(sheet, &mut answers);
-    put_groups(&answers, count, out);
-    number
+    fill(sheet, &mut answers);
+    put_groups(groups_in(&answers[..ANSWER_SIZE * targets]).as_slice(), out);
+    0
 }

@@ -9,10 +9,8 @@ use Rattle.drawing.proofs.answers.ends_in.Goals as goal
 
 pub returns-then-state-ne0 : goal.returns-then-state-ne0
 unfolding shown_in one
-returns-then-state-ne0 c =
-    sym (refused (shown_in c.args.answers.now c.args.at) c.if-state-ne0.true)
+returns-then-state-ne0 c = sym (refused (shown_in c.args.answer.now 0) c.if-state-ne0.true)
 
 pub returns : goal.returns
 unfolding shown_in one float
-returns c =
-    rw (c.four.ensures, c.four-2.ensures) (sym (answered (shown_in c.args.answers.now c.args.at) c.if-state-ne0.false))
+returns c = rw (c.four.ensures, c.four-2.ensures) (sym (answered (shown_in c.args.answer.now 0) c.if-state-ne0.false))

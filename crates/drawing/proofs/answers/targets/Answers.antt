@@ -1,4 +1,4 @@
--- `targets` meets its contract: the count of an accepted sheet, and 0 of a refused one.
+-- `targets` meets its contract: the count of an accepted sheet, of which there are few, and the fault of a refused one.
 -- Assumes nothing.
 use mathlib.Core.Path.{sym, ap, ◌∙◌}
 use Rattle.sheet.specs.Reading.{Outcome, outcome}
@@ -7,6 +7,9 @@ use Rattle.drawing.proofs.answers.targets.Goals as goal
 
 pub returns-in-Accepted : goal.returns-in-Accepted
 returns-in-Accepted c =
-    let e = ap outcome (sym c.in-Accepted.is) ∙ c.read-found.ensures in
+    let e = sym c.read.ensures ∙ ap outcome c.in-Accepted.is in
     let count = ap (λ (o : Outcome). o.targets) e in
-    (count, rw count (few_targets _))
+    (ap (λ (o : Outcome). o.state) e, count, rw (← count) (few_targets _))
+
+pub returns-in-Refused : goal.returns-in-Refused
+returns-in-Refused c = sym c.read.ensures ∙ ap outcome c.in-Refused.is

@@ -11,15 +11,15 @@ use Rattle.drawing.specs.Figures.{ends, ends_of}
 use Rattle.drawing.proofs.Ends.{refused}
 use Rattle.drawing.proofs.figures.ends_of.Goals as goal
 
-pub returns-in-Is : goal.returns-in-Is
+pub returns-in-Ok : goal.returns-in-Ok
 unfolding ends_of float
-returns-in-Is c =
-    ap ends (sym (ap shown c.in-Is.is) ∙ c.flux-f.ensures)
+returns-in-Ok c =
+    ap ends (sym (ap shown c.in-Ok.is) ∙ c.flux.ensures)
 
-pub returns-in-Refused : goal.returns-in-Refused
+pub returns-in-Err : goal.returns-in-Err
 unfolding ends_of
-returns-in-Refused c =
-    let why = c.in-Refused.why in
-    ap Refused c.number.ensures
+returns-in-Err c =
+    let why = c.in-Err.why in
+    ap Refused c.from.ensures
     ∙ sym (refused (flux.refused (number_of why)) (λ e. omega (arith, number_above_0 why, e)))
-    ∙ ap ends (sym (ap shown c.in-Refused.is) ∙ c.flux-f.ensures)
+    ∙ ap ends (sym (ap shown c.in-Err.is) ∙ c.flux.ensures)

@@ -1,20 +1,25 @@
 -- `fill_groups` meets its contract: too little room, or the groups of all targets, of which a refused sheet has none.
 -- Assumes nothing.
-use mathlib.Core.Path.{◌≡◌, refl, ap, ◌∙◌}
-use mathlib.Core.List.{List, ◌++◌}
+use mathlib.Core.Path.{◌≡◌, refl, sym, ap, ◌∙◌}
+use mathlib.Core.List.{List, [], ◌++◌}
 use Prim.Native.Nat.{ℕ, ◌*◌, ◌≤◌, ◌<◌}
 use lib.ListN.{length, drop}
 use lib.Ieee.{Float}
-use Rattle.sheet.specs.Reading.{reading_of}
-use Rattle.sheet.specs.Lent.{Lent, untouched}
+use native.Mathlib.Omega.{arith}
+use Rattle.sheet.specs.declared.reading.Fault.{Fault}
+use Rattle.sheet.specs.declared.reading.Fault.TheVariants.{CutShort, TooMany, LeftOver, NoFuel, NoPool}
+use Rattle.sheet.specs.Layout.{answer_size}
+use Rattle.sheet.specs.Reading.{Outcome, refused, number_of, reading_of}
+use Rattle.sheet.specs.Fill.{answers, fill_of}
+use Rattle.sheet.specs.Lent.{Lent, untouched, lent}
 use Rattle.sheet.specs.Private.{pasted}
 use Rattle.sheet.proofs.Sections.{refused_none}
 use Rattle.sheet.proofs.Lending.{short, ample}
 use Rattle.drawing.specs.declared.figures.Group.{Group}
 use Rattle.drawing.specs.Groups.{group_at, listed}
 use Rattle.drawing.specs.Lent.{group_size, laid_out, fill_groups_of}
-use Rattle.drawing.proofs.Bytes.{number_filled, groups_read}
-use Rattle.drawing.proofs.Listing.{all_laid_out}
+use Rattle.drawing.proofs.Bytes.{groups_read}
+use Rattle.drawing.proofs.Listing.{listed_length, all_laid_out}
 use Rattle.drawing.proofs.lent.fill_groups.Goals as goal
 
 -- the two cases of the definition
@@ -28,18 +33,43 @@ roomy :
 unfolding fill_groups_of listed laid_out
 roomy s out h = ample group_size (λ n. laid_out (listed (group_at s) n)) (reading_of s) (refused_none s) refl out h
 
-pub returns-then-out-count : goal.returns-then-out-count
-returns-then-out-count c =
-    let e = too_short c.args.sheet.now c.args.out.now (rw (← c.targets-count.ensures.0) c.if-out-count.true) in
+refused_lent : {A : Type 0} (why : Fault) (size : ℕ) (elements : ℕ → List A) (out : List A) → lent (refused (number_of why)) size elements out ≡ untouched (number_of why) out
+refused_lent CutShort size elements out = refl
+refused_lent TooMany size elements out = refl
+refused_lent LeftOver size elements out = refl
+refused_lent NoFuel size elements out = refl
+refused_lent NoPool size elements out = refl
+
+pub returns-in_default : goal.returns-in_default
+unfolding fill_groups_of fill_of
+returns-in_default c =
+    let s = c.args.sheet.now in
+    let why = c.in_default.field-0 in
+    let laid = refused_lent why group_size (λ n. laid_out (listed (group_at s) n)) c.args.out.now in
+    let number : c.fill.result ≡ number_of why =
+    c.fill.ensures.0
+    ∙ ap (λ (o : Outcome). (lent o answer_size (answers s) []).number) c.in_default.ensures
+    ∙ ap (λ (x : Lent ℕ). x.number) (refused_lent why answer_size (answers s) []) in
+    rw (c.in_default.ensures, number) (ap (λ (x : Lent Float). x.number) (sym laid), ap (λ (x : Lent Float). x.elements) (sym laid))
+
+pub returns-then-out-targets : goal.returns-then-out-targets
+returns-then-out-targets c =
+    let e = too_short c.args.sheet.now c.args.out.now (rw c.in-Ok.ensures.1 c.if-out-targets.true) in
     (ap (λ (x : Lent Float). x.number) e, ap (λ (x : Lent Float). x.elements) e)
+
+pub put_groups-requires : goal.put_groups-requires
+put_groups-requires c =
+    let s = c.args.sheet.now in
+    let groups = c.as_slice.ensures.value ∙ c.groups_in.ensures ∙ groups_read s _ _ c.fill-2.ensures.1 c.in-Ok.ensures.1 in
+    omega (arith, ap length groups, listed_length (group_at s) (reading_of s).targets, c.in-Ok.ensures.1, c.if-out-targets.false)
 
 pub returns : goal.returns
 returns c =
     let s = c.args.sheet.now in
-    let count = c.targets-count.ensures.0 in
-    let e = roomy s c.args.out.now (rw (← count) c.if-out-count.false) in
+    let read = c.in-Ok.ensures in
+    let e = roomy s c.args.out.now (rw read.1 c.if-out-targets.false) in
     let floats =
     c.put_groups.ensures
-    ∙ ap (λ (gs : List Group). pasted c.args.out.now 0 (laid_out gs)) (groups_read s _ _ c.fill-number.ensures.1 count)
+    ∙ ap (λ (gs : List Group). pasted c.args.out.now 0 (laid_out gs)) (c.as_slice.ensures.value ∙ c.groups_in.ensures ∙ groups_read s _ _ c.fill-2.ensures.1 read.1)
     ∙ all_laid_out (group_at s) c.args.out.now (reading_of s).targets in
-    (c.fill-number.ensures.0 ∙ number_filled s ∙ ap (λ (x : Lent Float). x.number) e, floats ∙ ap (λ (x : Lent Float). x.elements) e)
+    (sym read.0 ∙ ap (λ (x : Lent Float). x.number) e, floats ∙ ap (λ (x : Lent Float). x.elements) e)
