@@ -9,7 +9,7 @@ ghost use Rattle.drawing.specs.Private.{shown_in, group_in, TargetsOf};
 use super::figures::{Ends, group_of};
 use super::groups::Groups;
 use arrayvec::ArrayVec;
-use sheet::reading::{Fault, Reading, read};
+use sheet::reading::{Fault, read};
 
 pub(crate) const ANSWER_SIZE: usize = 10;
 
@@ -52,8 +52,5 @@ pub(crate) fn groups_in(answers: &[u8]) -> Groups
 pub(crate) fn targets(sheet: &[u8]) -> Result<usize, Fault>
     ensures { TargetsOf result sheet.now }
 {
-    match read(sheet) {
-        Reading::Accepted(counts) => Ok(counts.targets),
-        Reading::Refused(why) => Err(why),
-    }
+    Ok(read(sheet)?.targets)
 }

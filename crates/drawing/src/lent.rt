@@ -34,8 +34,9 @@ fn put_groups(groups: &[Group], out: &mut [f64])
 pub fn fill_groups(sheet: &[u8], out: &mut [f64]) -> u8
     ensures { (result ≡ (fill_groups_of sheet.now out.old).number) × (out.new ≡ (fill_groups_of sheet.now out.old).elements) }
 {
-    let Ok(targets) = targets(sheet) else {
-        return fill(sheet, &mut []);
+    let targets = match targets(sheet) {
+        Ok(targets) => targets,
+        Err(why) => return u8::from(why),
     };
     if out.len() < GROUP_SIZE * targets {
         return 31;

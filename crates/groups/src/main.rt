@@ -7,19 +7,7 @@ ghost use Rattle.drawing.specs.Claims.{plain_group};
 use drawing::figures::Group;
 use drawing::groups::groups_of;
 use input::sheets::each_sheet;
-use sheet::reading::Fault;
 use std::io;
-
-// The numbers of a sheet's refusals.
-fn number(why: Fault) -> u8 {
-    match why {
-        Fault::CutShort => 1,
-        Fault::TooMany => 2,
-        Fault::LeftOver => 3,
-        Fault::NoFuel => 4,
-        Fault::NoPool => 5,
-    }
-}
 
 fn print_group(rt: &impl Print, g: Group) -> io::Result<()>
     requires { plain_group g ≡ true }
@@ -34,7 +22,7 @@ fn print_group(rt: &impl Print, g: Group) -> io::Result<()>
 fn print_groups(rt: &impl Print, sheet: &[u8]) -> io::Result<()> {
     let groups = match groups_of(sheet) {
         Ok(groups) => groups,
-        Err(why) => return println!(rt; "sheet {}", number(why)),
+        Err(why) => return println!(rt; "sheet {}", u8::from(why)),
     };
     println!(rt; "groups {}", groups.len())?;
     for g in groups.as_slice() {

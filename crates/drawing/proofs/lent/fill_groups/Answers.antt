@@ -1,16 +1,14 @@
 -- `fill_groups` meets its contract: too little room, or the groups of all targets, of which a refused sheet has none.
 -- Assumes nothing.
 use mathlib.Core.Path.{◌≡◌, refl, sym, ap, ◌∙◌}
-use mathlib.Core.List.{List, [], ◌++◌}
+use mathlib.Core.List.{List, ◌++◌}
 use Prim.Native.Nat.{ℕ, ◌*◌, ◌≤◌, ◌<◌}
 use lib.ListN.{length, drop}
 use lib.Ieee.{Float}
 use native.Mathlib.Omega.{arith}
 use Rattle.sheet.specs.declared.reading.Fault.{Fault}
 use Rattle.sheet.specs.declared.reading.Fault.TheVariants.{CutShort, TooMany, LeftOver, NoFuel, NoPool}
-use Rattle.sheet.specs.Layout.{answer_size}
-use Rattle.sheet.specs.Reading.{Outcome, refused, number_of, reading_of}
-use Rattle.sheet.specs.Fill.{answers, fill_of}
+use Rattle.sheet.specs.Reading.{refused, number_of, reading_of}
 use Rattle.sheet.specs.Lent.{Lent, untouched, lent}
 use Rattle.sheet.specs.Private.{pasted}
 use Rattle.sheet.proofs.Sections.{refused_none}
@@ -40,17 +38,11 @@ refused_lent LeftOver size elements out = refl
 refused_lent NoFuel size elements out = refl
 refused_lent NoPool size elements out = refl
 
-pub returns-in_default : goal.returns-in_default
-unfolding fill_groups_of fill_of
-returns-in_default c =
-    let s = c.args.sheet.now in
-    let why = c.in_default.field-0 in
-    let laid = refused_lent why group_size (λ n. laid_out (listed (group_at s) n)) c.args.out.now in
-    let number : c.fill.result ≡ number_of why =
-    c.fill.ensures.0
-    ∙ ap (λ (o : Outcome). (lent o answer_size (answers s) []).number) c.in_default.ensures
-    ∙ ap (λ (x : Lent ℕ). x.number) (refused_lent why answer_size (answers s) []) in
-    rw (c.in_default.ensures, number) (ap (λ (x : Lent Float). x.number) (sym laid), ap (λ (x : Lent Float). x.elements) (sym laid))
+pub returns-in-Err : goal.returns-in-Err
+unfolding fill_groups_of
+returns-in-Err c =
+    let laid = refused_lent c.in-Err.why group_size (λ n. laid_out (listed (group_at c.args.sheet.now) n)) c.args.out.now in
+    rw (c.in-Err.ensures, c.from.ensures) (ap (λ (x : Lent Float). x.number) (sym laid), ap (λ (x : Lent Float). x.elements) (sym laid))
 
 pub returns-then-out-targets : goal.returns-then-out-targets
 returns-then-out-targets c =
@@ -60,7 +52,7 @@ returns-then-out-targets c =
 pub put_groups-requires : goal.put_groups-requires
 put_groups-requires c =
     let s = c.args.sheet.now in
-    let groups = c.as_slice.ensures.value ∙ c.groups_in.ensures ∙ groups_read s _ _ c.fill-2.ensures.1 c.in-Ok.ensures.1 in
+    let groups = c.as_slice.ensures.value ∙ c.groups_in.ensures ∙ groups_read s _ _ c.fill.ensures.1 c.in-Ok.ensures.1 in
     omega (arith, ap length groups, listed_length (group_at s) (reading_of s).targets, c.in-Ok.ensures.1, c.if-out-targets.false)
 
 pub returns : goal.returns
@@ -70,6 +62,6 @@ returns c =
     let e = roomy s c.args.out.now (rw read.1 c.if-out-targets.false) in
     let floats =
     c.put_groups.ensures
-    ∙ ap (λ (gs : List Group). pasted c.args.out.now 0 (laid_out gs)) (c.as_slice.ensures.value ∙ c.groups_in.ensures ∙ groups_read s _ _ c.fill-2.ensures.1 read.1)
+    ∙ ap (λ (gs : List Group). pasted c.args.out.now 0 (laid_out gs)) (c.as_slice.ensures.value ∙ c.groups_in.ensures ∙ groups_read s _ _ c.fill.ensures.1 read.1)
     ∙ all_laid_out (group_at s) c.args.out.now (reading_of s).targets in
     (sym read.0 ∙ ap (λ (x : Lent Float). x.number) e, floats ∙ ap (λ (x : Lent Float). x.elements) e)
