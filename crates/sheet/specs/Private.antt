@@ -48,8 +48,6 @@ returned (Err why) = not_filled why
 unfoldable pub pasted : {A : Type 0} → List A → ℕ → List A → List A
 pasted d at vs = take at d ++ (vs ++ drop (at + length vs) d)
 
--- vs was written at `at`, and `next` is the place after it.
-
 -- vs was written after the text so far, in the same buffer.
 pub record Writes (t : Text) (vs : List ℕ) (u : Text) : Type 0 where
   pub bytes : u.buffer.now ≡ pasted t.buffer.now t.len vs

@@ -59,6 +59,7 @@ fn put_answers(out: &mut [u8], sheet: &Accepted)
     }
 }
 
+// The fill, or why nothing is written.
 fn try_fill(sheet: &[u8], out: &mut [u8]) -> Result<(), NotFilled>
     ensures { (returned result ≡ (fill_of sheet.now out.old).number) × (out.new ≡ (fill_of sheet.now out.old).elements) }
 {

@@ -57,6 +57,7 @@ fn put_refusal(text: &mut Text, why: Fault)
     text.field(u8::from(why) as u32, b'\n');
 }
 
+// The text of a sheet.
 fn put_report(text: &mut Text, sheet: &[u8])
     requires { text.old.len + report_room ≤ length text.old.buffer.now }
     ensures { Writes text.old (text_of sheet.now) text.new }
