@@ -1,115 +1,103 @@
 // One line of the input: a name, and its numbers, each after one blank.
-ghost use Rattle.std.specs.Prelude.{◌≤◌, length};
+use chain::enquiry::Enquiry;
+use pairs::answer::Pair;
+use planning::grid::Grid;
+use planning::scenario::Scenario;
+use std::str::{FromStr, Split};
 
-// The numbers of a line, in its order, at most 14; each may have a sign. A line that cannot be read is not readable, whatever follows.
-#[derive(Clone, Copy)]
-pub(crate) struct Numbers {
-    pub(crate) readable: bool,
-    // whether a blank or a sign was the last byte: a digit is to follow
-    pub(crate) awaited: bool,
-    pub(crate) count: usize,
-    pub(crate) values: [u64; 14],
-    pub(crate) signs: [bool; 14],
+// The numbers of a line that are still to be read. Where a method gives None, the line cannot be read.
+#[derive(Drop)]
+pub(crate) struct Numbers<'a> {
+    words: Split<'a, char>,
 }
 
-fn no_numbers() -> Numbers {
-    Numbers {
-        readable: true,
-        awaited: false,
-        count: 0,
-        values: [0; 14],
-        signs: [false; 14],
+impl<'a> Numbers<'a> {
+    // The next number, of its type: digits, after a `-` where the type has a sign. `parse` alone would take a `+` too.
+    pub(crate) fn next<T: FromStr>(&mut self) -> Option<T>
+    where
+        T::Err: Drop,
+    {
+        let word = self.words.next()?;
+        if word.starts_with('+') {
+            return None;
+        }
+        word.parse().ok()
     }
-}
 
-fn unreadable(mut ns: Numbers) -> Numbers {
-    ns.readable = false;
-    ns
-}
-
-// A blank: the next number begins.
-fn with_blank(mut ns: Numbers) -> Numbers {
-    if ns.awaited {
-        return unreadable(ns);
-    }
-    if 13 < ns.count {
-        return unreadable(ns);
-    }
-    ns.awaited = true;
-    ns.count += 1;
-    ns
-}
-
-// A sign: before the digits of a number, and once.
-fn with_sign(mut ns: Numbers) -> Numbers {
-    let count = ns.count;
-    if count == 0 || !ns.awaited {
-        return unreadable(ns);
-    }
-    let at = count - 1;
-    if 13 < at {
-        return unreadable(ns);
-    }
-    if ns.signs[at] {
-        return unreadable(ns);
-    }
-    ns.signs[at] = true;
-    ns
-}
-
-// One more digit of the last number, which stays below 2^64.
-fn with_digit(mut ns: Numbers, digit: u64) -> Numbers {
-    let count = ns.count;
-    if count == 0 || 9 < digit {
-        return unreadable(ns);
-    }
-    let at = count - 1;
-    if 13 < at {
-        return unreadable(ns);
-    }
-    let value = ns.values[at];
-    if (u64::MAX - digit) / 10 < value {
-        return unreadable(ns);
-    }
-    ns.awaited = false;
-    ns.values[at] = value * 10 + digit;
-    ns
-}
-
-fn with_byte(ns: Numbers, byte: u8) -> Numbers {
-    if byte == b' ' {
-        return with_blank(ns);
-    }
-    if byte == b'-' {
-        return with_sign(ns);
-    }
-    if byte < b'0' {
-        return unreadable(ns);
-    }
-    with_digit(ns, (byte - b'0') as u64)
-}
-
-// The numbers of what follows a name.
-pub(crate) fn numbers_in(text: &[u8]) -> Numbers {
-    let mut ns = no_numbers();
-    for b in text {
-        ns = with_byte(ns, *b);
-    }
-    if ns.awaited {
-        return unreadable(ns);
-    }
-    ns
-}
-
-// The place of the first such byte at or after a place, or the end.
-pub(crate) fn place_of(text: &[u8], byte: u8, from: usize) -> usize
-    requires { from ≤ length text.now }
-    ensures { (from ≤ result) × (result ≤ length text.now) }
-{
-    for i in from..text.len() {
-        if text[i] == byte {
-            return i;
+    // That no number is left.
+    pub(crate) fn end(mut self) -> Option<()> {
+        match self.words.next() {
+            None => Some(()),
+            Some(_) => None,
         }
     }
-    text.len()
+
+    pub(crate) fn last<T: FromStr + Drop>(mut self) -> Option<T>
+    where
+        T::Err: Drop,
+    {
+        let n = self.next()?;
+        self.end()?;
+        Some(n)
+    }
+
+    pub(crate) fn pair(&mut self) -> Option<Pair> {
+        Some(Pair {
+            low: self.next()?,
+            high: self.next()?,
+        })
+    }
+
+    pub(crate) fn last_pair(mut self) -> Option<Pair> {
+        let p = self.pair()?;
+        self.end()?;
+        Some(p)
+    }
+
+    // rows points spacing east north
+    pub(crate) fn grid(&mut self) -> Option<Grid> {
+        Some(Grid {
+            rows: self.next()?,
+            points: self.next()?,
+            spacing: self.next()?,
+            east: self.next()?,
+            north: self.next()?,
+        })
+    }
+
+    // m k c a method d face height transmissivity, to the end
+    pub(crate) fn enquiry(mut self) -> Option<Enquiry> {
+        Some(Enquiry {
+            rate: self.next()?,
+            absorption: self.next()?,
+            heat: self.next()?,
+            area: self.next()?,
+            method: self.next()?,
+            distance: self.next()?,
+            face: self.next()?,
+            height: self.next()?,
+            transmissivity: self.last()?,
+        })
+    }
+
+    // m k c a method face height transmissivity, to the end
+    pub(crate) fn scenario(mut self) -> Option<Scenario> {
+        Some(Scenario {
+            rate: self.next()?,
+            absorption: self.next()?,
+            heat: self.next()?,
+            area: self.next()?,
+            method: self.next()?,
+            face: self.next()?,
+            height: self.next()?,
+            transmissivity: self.last()?,
+        })
+    }
+}
+
+// The name of a line, and its numbers.
+pub(crate) fn name_and_numbers(line: &[u8]) -> Option<(&str, Numbers<'_>)> {
+    let mut words = str::from_utf8(line).ok()?.split(' ');
+    let name = words.next()?;
+    Some((name, Numbers { words }))
 }
