@@ -7,35 +7,27 @@ mod register_calls;
 mod sequence;
 mod which_calls;
 
-use check::same;
-use pairs::answer::{Answer, Pair};
+use pairs::answer::{Pair, Refusal};
+use pairs::atan::atan;
+use pairs::exp_neg::exp_neg;
+use pairs::fifth_root::fifth_root;
+use pairs::product::product;
+use pairs::quotient::quotient;
+use pairs::root::root;
 use register_calls::calls_sum;
 use sequence::{ends, pair_at};
 use std::env::Env;
 use std::io;
-use std::num::wrapping_add_u64;
 use which_calls::which_sum;
 
-#[derive(Clone, Copy)]
-enum Operation {
-    Product,
-    Quotient,
-    Root,
-    FifthRoot,
-    Atan,
-    ExpNeg,
-    ColdExpNeg,
-}
-
 // The check sum with both ends of an answer, the high end twice; 1 more for a refusal.
-fn with_answer(total: u64, a: Answer) -> u64 {
-    let Answer::Is(p) = a else {
-        return wrapping_add_u64(total, 1);
-    };
-    wrapping_add_u64(
-        wrapping_add_u64(total, p.low),
-        wrapping_add_u64(p.high, p.high),
-    )
+fn with_answer(total: u64, answer: Result<Pair, Refusal>) -> u64 {
+    match answer {
+        Ok(p) => total
+            .wrapping_add(p.low)
+            .wrapping_add(p.high.wrapping_add(p.high)),
+        Err(_) => total.wrapping_add(1),
+    }
 }
 
 // A 128th of a pair, which lies below 20.
@@ -54,102 +46,67 @@ fn from_20(p: Pair) -> Pair {
     }
 }
 
-fn answer_of(o: Operation, p: Pair, q: Pair) -> Answer {
-    match o {
-        Operation::Product => pairs::product::product(p, q),
-        Operation::Quotient => pairs::quotient::quotient(p, q),
-        Operation::Root => pairs::root::root(p),
-        Operation::FifthRoot => pairs::fifth_root::fifth_root(p),
-        Operation::Atan => pairs::atan::atan(p),
-        Operation::ExpNeg => pairs::exp_neg::exp_neg(below_20(p)),
-        Operation::ColdExpNeg => pairs::exp_neg::exp_neg(from_20(p)),
-    }
-}
-
 // The check sum of `count` answers, over neighbours in the sequence.
-fn check_sum(o: Operation, count: u64) -> u64 {
+fn check_sum<F: Fn(Pair, Pair) -> Result<Pair, Refusal>>(operation: F, count: u64) -> u64
+    requires { F.IsAlwaysCallable operation }
+{
     let numbers = ends();
-    let mut total: u64 = 0;
+    let mut total = 0;
     for n in 0..count {
         total = with_answer(
             total,
-            answer_of(o, pair_at(&numbers, n), pair_at(&numbers, n + 1)),
+            operation(pair_at(&numbers, n), pair_at(&numbers, n + 1)),
         );
     }
     total
 }
 
-// The operation of this name; a cold exp_neg for any other.
-fn named(name: &[u8]) -> Operation {
-    if same(name, b"product") {
-        return Operation::Product;
+// The check sum of what a name says, so many times; of a cold exp_neg for any other name.
+fn sum_of(name: &[u8], count: u64) -> u64 {
+    match name {
+        b"product" => check_sum(product, count),
+        b"quotient" => check_sum(quotient, count),
+        b"root" => check_sum(|p, _| root(p), count),
+        b"fifth_root" => check_sum(|p, _| fifth_root(p), count),
+        b"atan" => check_sum(|p, _| atan(p), count),
+        b"exp_neg" => check_sum(|p, _| exp_neg(below_20(p)), count),
+        b"calls" => calls_sum(count, false),
+        b"calls_and_sums" => calls_sum(count, true),
+        b"which" => which_sum(count),
+        _ => check_sum(|p, _| exp_neg(from_20(p)), count),
     }
-    if same(name, b"quotient") {
-        return Operation::Quotient;
-    }
-    if same(name, b"root") {
-        return Operation::Root;
-    }
-    if same(name, b"fifth_root") {
-        return Operation::FifthRoot;
-    }
-    if same(name, b"atan") {
-        return Operation::Atan;
-    }
-    if same(name, b"exp_neg") {
-        return Operation::ExpNeg;
-    }
-    Operation::ColdExpNeg
 }
 
-// The number that a byte appended to its decimal digits makes. A byte that is no digit is passed over, and a number of 17 digits stays.
-fn appended(n: u64, digit: u8) -> u64 {
-    if digit < b'0' {
-        return n;
-    }
-    if b'9' < digit {
-        return n;
-    }
-    if 1_000_000_000_000_000 < n {
-        return n;
-    }
-    n * 10 + (digit - b'0') as u64
-}
-
-fn number_in(s: &[u8]) -> u64 {
-    let mut n: u64 = 0;
-    for b in s {
-        n = appended(n, *b);
-    }
-    n
-}
-
-fn print_sum(rt: &impl Print, o: Operation, count: u64) -> io::Result<()> {
-    rt.print(check_sum(o, count))?;
-    rt.write_all(b"\n")
-}
-
-fn print_calls(rt: &impl Print, count: u64, after_each: bool) -> io::Result<()> {
-    rt.print(calls_sum(count, after_each))?;
-    rt.write_all(b"\n")
-}
-
-fn print_which(rt: &impl Print, count: u64) -> io::Result<()> {
-    rt.print(which_sum(count))?;
-    rt.write_all(b"\n")
+// The number that the decimal digits make. A byte that is no digit is passed over, and a number of 17 digits stays.
+fn number_in(text: &[u8]) -> u64 {
+    text.iter()
+        .filter_map(|b| (*b as char).to_digit(10))
+        .fold(0, |n, digit| {
+            if 1_000_000_000_000_000 < n {
+                n
+            } else {
+                n * 10 + digit as u64
+            }
+        })
 }
 
 fn print_each(rt: &impl Print) -> io::Result<()> {
-    print_sum(rt, Operation::Product, 1000)?;
-    print_sum(rt, Operation::Quotient, 1000)?;
-    print_sum(rt, Operation::Root, 1000)?;
-    print_sum(rt, Operation::FifthRoot, 1000)?;
-    print_sum(rt, Operation::Atan, 1000)?;
-    print_sum(rt, Operation::ExpNeg, 1000)?;
-    print_sum(rt, Operation::ColdExpNeg, 1000)?;
-    print_calls(rt, 1000, false)?;
-    print_calls(rt, 1000, true)?;
-    print_which(rt, 1000)
+    let names = [
+        &b"product"[..],
+        b"quotient",
+        b"root",
+        b"fifth_root",
+        b"atan",
+        b"exp_neg",
+        b"cold_exp_neg",
+        b"calls",
+        b"calls_and_sums",
+        b"which",
+    ];
+    for name in names {
+        rt.println(sum_of(name, 1000))?;
+    }
+    Ok(())
 }
 
 // How many times: the second argument.
@@ -165,14 +122,5 @@ fn main(rt: HostRuntime) -> io::Result<()> {
     if n == 0 {
         return print_each(&rt);
     }
-    if same(&name[..n], b"calls") {
-        return print_calls(&rt, count_asked(&rt), false);
-    }
-    if same(&name[..n], b"calls_and_sums") {
-        return print_calls(&rt, count_asked(&rt), true);
-    }
-    if same(&name[..n], b"which") {
-        return print_which(&rt, count_asked(&rt));
-    }
-    print_sum(&rt, named(&name[..n]), count_asked(&rt))
+    rt.println(sum_of(&name[..n], count_asked(&rt)))
 }

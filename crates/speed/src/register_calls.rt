@@ -1,9 +1,8 @@
 // Calls on the register: by turns a pool is lit, and the one that was lit twelve pools before it is put out.
 use chain::enquiry::Enquiry;
-use register::calls::{Called, Outcome, light, put_out};
-use register::places::{Register, empty};
-use register::sums::{Totals, sums};
-use std::num::wrapping_add_u64;
+use register::calls::CallRefusal;
+use register::places::Register;
+use register::sums::Totals;
 
 // The enquiry of the k-th pool that is lit: each method and face, at 16 distances.
 pub(crate) fn enquiry_of(k: u64) -> Enquiry {
@@ -20,43 +19,34 @@ pub(crate) fn enquiry_of(k: u64) -> Enquiry {
     }
 }
 
-fn nth_call(r: Register, n: u64) -> Called {
+fn nth_call(register: &mut Register, n: u64) -> Result<(), CallRefusal> {
     let k = n / 2;
     if n % 2 == 0 {
-        return light(r, (k % 24 + 1) as u32, enquiry_of(k));
-    }
-    put_out(r, (k % 24 + 12) as u32 % 24 + 1)
-}
-
-// 1 more for a refusal.
-fn with_outcome(total: u64, o: Outcome) -> u64 {
-    match o {
-        Outcome::Accepted => total,
-        _ => wrapping_add_u64(total, 1),
+        register.light((k % 24 + 1) as u32, enquiry_of(k))
+    } else {
+        register.put_out((k % 24 + 12) as u32 % 24 + 1)
     }
 }
 
 // The check sum with how many burn and both sums, that of the highs twice.
 fn with_totals(total: u64, t: Totals) -> u64 {
-    wrapping_add_u64(
-        wrapping_add_u64(total, t.burning as u64),
-        wrapping_add_u64(t.lows, wrapping_add_u64(t.highs, t.highs)),
-    )
+    total
+        .wrapping_add(t.burning as u64)
+        .wrapping_add(t.lows)
+        .wrapping_add(t.highs.wrapping_add(t.highs))
 }
 
-// The check sum of `count` calls and of the sums after them; of the sums after each call where they are asked for.
+// The check sum of `count` calls, 1 for each refusal, and of the sums after them; of the sums after each call where they are asked for.
 pub(crate) fn calls_sum(count: u64, after_each: bool) -> u64 {
-    let mut register = empty();
-    let mut total: u64 = 0;
+    let mut register = Register::empty();
+    let mut total = 0u64;
     for n in 0..count {
-        let c = nth_call(register, n);
-        let o = c.outcome;
-        let next = c.register;
-        total = with_outcome(total, o);
-        if after_each {
-            total = with_totals(total, sums(next));
+        if nth_call(&mut register, n).is_err() {
+            total = total.wrapping_add(1);
         }
-        register = next;
+        if after_each {
+            total = with_totals(total, register.sums());
+        }
     }
-    with_totals(total, sums(register))
+    with_totals(total, register.sums())
 }

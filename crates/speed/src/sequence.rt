@@ -1,7 +1,7 @@
 // The fixed random sequence that the operations are timed on.
 use pairs::answer::Pair;
 
-pub(crate) const LENGTH: u64 = 1024;
+const LENGTH: usize = 1024;
 
 // One step of a 64-bit xorshift generator (13, 7, 17).
 fn stepped(x: u64) -> u64 {
@@ -16,20 +16,19 @@ fn end_of(x: u64) -> u64 {
 }
 
 // 1,024 numbers.
-pub(crate) fn ends() -> [u64; 1024] {
-    let mut numbers = [0u64; 1024];
-    let mut x: u64 = 88_172_645_463_325_252;
-    for i in 0..1024 {
+pub(crate) fn ends() -> [u64; LENGTH] {
+    let mut numbers = [0; LENGTH];
+    let mut x = 88_172_645_463_325_252;
+    for number in &mut numbers {
         x = stepped(x);
-        numbers[i] = end_of(x);
+        *number = end_of(x);
     }
     numbers
 }
 
 // The pair number n: its low end from the sequence, its width below 8.
-pub(crate) fn pair_at(numbers: &[u64; 1024], n: u64) -> Pair {
-    let i = (n % LENGTH) as usize;
-    let low = numbers[i] % 0x8_0000_0000_0000;
+pub(crate) fn pair_at(numbers: &[u64; LENGTH], n: u64) -> Pair {
+    let low = numbers[(n % LENGTH as u64) as usize] % 0x8_0000_0000_0000;
     Pair {
         low,
         high: low + low % 8,
