@@ -1,9 +1,10 @@
 -- A quotient rounded down and rounded up: what each covers, and that both grow with the number and fall with the divisor.
 -- By the law of division with rest. Assumes nothing.
-use mathlib.Core.Path.{◌≡◌, refl}
-use Prim.Native.Nat.{ℕ, zero, suc, ◌+◌, ◌*◌, ◌-◌, ◌/◌, ◌≤◌, ◌<◌, zero-le}
-use native.Mathlib.Nat.{le_trans, mul-le-mul_left, le_of_mul-le-mul_right, mod-lt, div-add-mod', div-lt_iff_lt-mul, le-div_iff_mul-le, div-mul-le_self, lt-div-mul-add, suc-mul, div-zero, zero-lt-suc}
+use mathlib.Core.Path.{◌≡◌, refl, sym}
+use Prim.Native.Nat.{ℕ, zero, suc, ◌+◌, ◌*◌, ◌-◌, ◌/◌, ◌%◌, ◌≤◌, ◌<◌, min, zero-le}
+use native.Mathlib.Nat.{le_trans, mul-le-mul_left, le_of_mul-le-mul_right, mod-lt, div-add-mod', div-lt_iff_lt-mul, le-div_iff_mul-le, div-mul-le_self, lt-div-mul-add, div-eq_of_lt-le, suc-mul, div-zero, zero-lt-suc}
 use native.Mathlib.Omega.{arith}
+use Rattle.std.proofs.lemmas.Grind.{div_ceil_times}
 use Rattle.pairs.specs.Rounded.{down, up}
 
 pub up_by : (n d : ℕ) → (n + (d - 1)) / d ≡ up n d
@@ -50,3 +51,11 @@ down_below_up n (suc d) =
 -- over a whole number, rounded up, is no more than the number
 pub up_le : (b n : ℕ) → zero < n → up b n ≤ b
 up_le b n p = up_least b n b p (omega (arith, mul-le-mul_left b p))
+
+by_quotient : (n d q : ℕ) → zero < d → n ≤ q * d → q * d < n + d → q ≡ up n d
+unfolding up
+by_quotient n d q p h k = sym (div-eq_of_lt-le {k = q} d {m = n + (d - 1)} (omega arith) (omega (arith, suc-mul q d)))
+
+-- the library's quotient rounded up
+pub up_of_ceil : (n d : ℕ) → zero < d → n / d + min 1 (n % d) ≡ up n d
+up_of_ceil n d p = let t = div_ceil_times n d p in by_quotient n d (n / d + min 1 (n % d)) p t.0 t.1

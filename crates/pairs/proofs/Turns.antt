@@ -1,30 +1,17 @@
--- One turn of each series' loop: the ends that it holds are those of the powers and of the sums of terms so far.
+-- One turn of each series' loop: the pairs that it holds are the sums of terms so far, and the terms to come are those of the series.
 -- Assumes nothing.
 use mathlib.Core.Path.{◌≡◌, refl, sym, ap, ap₂, ◌∙◌}
 use Prim.Native.Nat.{ℕ, zero, suc, ◌+◌, ◌*◌, ◌-◌, ◌/◌, ◌≤◌, ◌<◌, zero-le}
+use native.Mathlib.Nat.{le_refl, add-zero}
 use native.Mathlib.Numerals.{add-one}
 use native.Mathlib.Omega.{arith}
 use Rattle.pairs.specs.declared.answer.Pair.{Pair}
 use Rattle.pairs.specs.Rounded as R
-use Rattle.pairs.specs.Rounded.{U, rounded, ends, down, up}
-use Rattle.pairs.specs.Private.{carried}
-use Rattle.pairs.specs.Series.{plus_terms, minus_terms, alternating, power, arc_term}
-use Rattle.pairs.proofs.product.Parts.{carried_down, carried_up}
+use Rattle.pairs.specs.Rounded.{U, rounded, ends}
+use Rattle.pairs.specs.Private.{power_from, exp_from}
+use Rattle.pairs.specs.Series.{plus_terms, minus_terms, alternating, power, arc_term, arc, exp_term}
 use Rattle.pairs.proofs.Rounding.{up_le}
-use Rattle.pairs.proofs.Terms.{Within, product_within, power_within}
-
--- A quotient rounded up is at most the number.
-pub divided_up_le : (a n r : ℕ) → zero < n → r ≡ up a n → r ≤ a
-divided_up_le a n r z e = rw e (up_le a n z)
-
--- What the code's two roundings of a product make.
-pub product_is : (p q r : Pair) → r.low ≡ carried 0 (p.low * q.low) → r.high ≡ carried 999_999 (p.high * q.high) → r ≡ R.product p q
-unfolding R.product
-product_is p q r l h = ap₂ ends (l ∙ carried_down _) (h ∙ carried_up _)
-
-pub over_is : (p r : Pair) (n : ℕ) → r.low ≡ p.low / n → r.high ≡ up p.high n → r ≡ R.over p n
-unfolding R.over R.down
-over_is p r n l h = ap₂ ends l h
+use Rattle.pairs.proofs.Terms.{Within, product_within, over_within}
 
 -- ---- alternating sums
 -- The sum that term j joins: that of the terms j-2, j-4, .. before it.
@@ -55,41 +42,34 @@ pub record Alternated (term : ℕ → Pair) (n : ℕ) (sum other : Pair) : Type 
   pub sum_small : Within (n * U) sum
   pub other_small : Within (suc n * U) other
 
-module _ (term : ℕ → Pair) (small : (j : ℕ) → Within U (term j)) where
-  second_within : (n : ℕ) → Within (n * U) (every_second term n)
-  unfolding every_second R.sum
-  second_within zero = record { ordered = zero-le; high = zero-le }
-  second_within (suc zero) = record { ordered = zero-le; high = zero-le }
-  second_within (suc (suc n)) = omega (arith, second_within n, small n)
+pub alternated_none : (term : ℕ → Pair) → Alternated term 0 (ends 0 0) (ends 0 0)
+unfolding every_second
+alternated_none term = record { sum_is = refl; other_is = refl; sum_small = omega arith; other_small = omega arith }
 
-  alternated : (n : ℕ) (sum other : Pair) → sum ≡ every_second term n → other ≡ every_second term (suc n) → Alternated term n sum other
-  alternated n sum other e f =
-      record {
-        sum_is = e;
-        other_is = f;
-        sum_small = rw e (second_within n);
-        other_small = rw f (second_within (suc n));
-      }
+-- A term of at most 1 joins its sum, and the two change places.
+pub alternated_more :
+    (term : ℕ → Pair) (n : ℕ) (sum other a r : Pair) → Alternated term n sum other → a ≡ term n → Within U a → r ≡ R.sum sum a
+    → Alternated term (n + 1) other r
+unfolding every_second R.sum
+alternated_more term n sum other a r s e w f =
+    record {
+      sum_is = s.other_is ∙ rw add-one;
+      other_is = f ∙ ap₂ R.sum s.sum_is e ∙ rw add-one;
+      sum_small = omega (arith, s.other_small);
+      other_small = rw f (omega (arith, s.sum_small, w));
+    }
 
-  pub alternated_none : Alternated term 0 (ends 0 0) (ends 0 0)
-  unfolding every_second
-  alternated_none = alternated 0 (ends 0 0) (ends 0 0) refl refl
+-- The next of the terms to come is term n, where they are those from n on.
+pub next_is : (term : ℕ → Pair) (n : ℕ) {first : Pair} (a : Pair) → first ≡ term (n + 0) → a ≡ first → a ≡ term n
+next_is term n a h e = e ∙ h ∙ ap term (add-zero n)
 
-  -- A term joins its sum, and the two change places.
-  pub alternated_more :
-      (n : ℕ) (sum other a : Pair) → Alternated term n sum other → a ≡ term n
-      → Alternated term (n + 1) other (ends (sum.low + a.low) (sum.high + a.high))
-  unfolding every_second R.sum
-  alternated_more n sum other a s e =
-      rw add-one (alternated (suc n) other _ s.other_is (ap₂ R.sum s.sum_is e))
-
--- The ends of the series from the sums of sixteen terms and the seventeenth.
-pub alternated_all :
-    (term : ℕ → Pair) (sum other r : Pair) (last : ℕ) → Alternated term 16 sum other → last ≡ (term 16).high
-    → r.low ≡ sum.low - other.high → r.high ≡ sum.high + last - other.low → r ≡ alternating rounded term
+-- The pair of the series from the sums of sixteen terms and the seventeenth.
+after_16 :
+    (term : ℕ → Pair) (sum other last r : Pair) → Alternated term 16 sum other → last ≡ term 16
+    → r ≡ R.difference (ends sum.low (sum.high + last.high)) other → r ≡ alternating rounded term
 unfolding alternating R.sum R.difference R.high_only
-alternated_all term sum other r last s e l h =
-    ap₂ ends (l ∙ first) (h ∙ second)
+after_16 term sum other last r s e f =
+    f ∙ ap₂ ends first second
   where
     plus : sum ≡ plus_terms rounded term 8
     plus = s.sum_is ∙ even_second term 8
@@ -100,39 +80,64 @@ alternated_all term sum other r last s e l h =
     first : sum.low - other.high ≡ (plus_terms rounded term 8).low + 0 - (minus_terms rounded term 8).high
     first = omega (arith, ap (λ (p : Pair). p.low) plus, ap (λ (p : Pair). p.high) minus)
 
-    second : sum.high + last - other.low ≡ (plus_terms rounded term 8).high + (term 16).high - (minus_terms rounded term 8).low
-    second = omega (arith, e, ap (λ (p : Pair). p.high) plus, ap (λ (p : Pair). p.low) minus)
+    second : sum.high + last.high - other.low ≡ (plus_terms rounded term 8).high + (term 16).high - (minus_terms rounded term 8).low
+    second = omega (arith, ap (λ (p : Pair). p.high) e, ap (λ (p : Pair). p.high) plus, ap (λ (p : Pair). p.low) minus)
 
--- ---- powers and the arc's terms
-pub record Powered (t square : Pair) (j : ℕ) (p : Pair) : Type 0 where
-  pub square_is : square ≡ R.product t t
-  pub power_is : p ≡ power rounded t j
-  pub square_small : Within U square
-  pub power_small : Within U p
+pub alternated_all :
+    (term : ℕ → Pair) (n : ℕ) (sum other last r : Pair) {first : Pair} → n ≡ 16 → Alternated term n sum other → first ≡ term (n + 0)
+    → last ≡ first → r ≡ R.difference (ends sum.low (sum.high + last.high)) other → r ≡ alternating rounded term
+alternated_all term n sum other last r e s h f g = after_16 term sum other last r (rw e at s) (rw e at (next_is term n last h f)) g
 
-module _ (t square : Pair) (w : Within U t) where
-  powered : (j : ℕ) (p : Pair) → square ≡ R.product t t → p ≡ power rounded t j → Powered t square j p
-  powered j p e f =
-      record {
-        square_is = e;
-        power_is = f;
-        square_small = rw e (product_within w w);
-        power_small = rw f (power_within t w j);
-      }
+-- ---- what one operation on numbers of at most 1 keeps
+pub product_small :
+    (p q : Pair) → p.low ≤ p.high → p.high ≤ U → q.low ≤ q.high → q.high ≤ U
+    → ((R.product p q).low ≤ (R.product p q).high) × ((R.product p q).high ≤ U)
+product_small p q o h k l =
+    let w = product_within (record { ordered = o; high = h }) (record { ordered = k; high = l }) in (w.ordered, w.high)
 
-  pub powered_first : square.low ≡ carried 0 (t.low * t.low) → square.high ≡ carried 999_999 (t.high * t.high) → Powered t square 0 t
-  unfolding power
-  powered_first l h = powered 0 t (product_is t t square l h) refl
+pub over_small : (p : Pair) (n : ℕ) → zero < n → ((R.over p n).high ≤ p.high) × (p.low ≤ p.high → (R.over p n).low ≤ (R.over p n).high)
+unfolding R.over
+over_small p n z = (up_le p.high n z, λ o. (over_within (record { ordered = o; high = le_refl p.high }) n z).ordered)
 
-  pub powered_next :
-      (j k : ℕ) (p q : Pair) → Powered t square j p → k ≡ suc j → q.low ≡ carried 0 (p.low * square.low)
-      → q.high ≡ carried 999_999 (p.high * square.high) → Powered t square k q
-  unfolding power
-  powered_next j k p q s e l h =
-      rw e (powered (suc j) q s.square_is (product_is p square q l h ∙ ap₂ R.product s.power_is s.square_is))
+-- ---- the powers to come, and the terms of the arc
+pub power_from_t : (t : Pair) (k : ℕ) → power_from t (R.product t t) k ≡ power rounded t k
+unfolding power_from power
+power_from_t t zero = refl
+power_from_t t (suc k) = ap (λ (p : Pair). R.product p (R.product t t)) (power_from_t t k)
 
-pub arc_term_is :
-    (t square : Pair) (j n : ℕ) (p r : Pair) → Powered t square j p → n ≡ 2 * j + 1 → r.low ≡ p.low / n → r.high ≡ up p.high n
-    → r ≡ arc_term rounded t j
+power_from_next : (p q : Pair) (k : ℕ) → power_from (R.product p q) q k ≡ power_from p q (suc k)
+unfolding power_from
+power_from_next p q zero = refl
+power_from_next p q (suc k) = ap (λ (x : Pair). R.product x q) (power_from_next p q k)
+
+pub arc_terms_t : (t : Pair) (k : ℕ) → R.over (power_from t (R.product t t) k) (2 * (0 + k) + 1) ≡ arc_term rounded t k
 unfolding arc_term
-arc_term_is t square j n p r s e l h = over_is p r n l h ∙ ap₂ R.over s.power_is e
+arc_terms_t t k = ap₂ R.over (power_from_t t k) (omega arith)
+
+pub arc_terms_next : (p q : Pair) (n k : ℕ) → R.over (power_from (R.product p q) q k) (2 * (n + 1 + k) + 1) ≡ R.over (power_from p q (k + 1)) (2 * (n + (k + 1)) + 1)
+arc_terms_next p q n k = ap₂ R.over (power_from_next p q k ∙ ap (power_from p q) (sym (add-one k))) (omega arith)
+
+-- ---- the terms of exp to come
+pub exp_from_1 : (z : Pair) (k : ℕ) → exp_from (ends U U) z 0 k ≡ exp_term rounded z k
+unfolding exp_from exp_term R.constant
+exp_from_1 z zero = refl
+exp_from_1 z (suc k) = ap₂ (λ (p : Pair) (n : ℕ). R.over (R.product p z) n) (exp_from_1 z k) (omega arith)
+
+exp_from_suc : (p z : Pair) (n k : ℕ) → exp_from (R.over (R.product p z) (n + 1)) z (n + 1) k ≡ exp_from p z n (suc k)
+unfolding exp_from
+exp_from_suc p z n zero = ap (R.over (R.product p z)) (omega arith)
+exp_from_suc p z n (suc k) = ap₂ (λ (x : Pair) (m : ℕ). R.over (R.product x z) m) (exp_from_suc p z n k) (omega arith)
+
+pub exp_from_next : (p z : Pair) (n k : ℕ) → exp_from (R.over (R.product p z) (n + 1)) z (n + 1) k ≡ exp_from p z n (k + 1)
+exp_from_next p z n k = exp_from_suc p z n k ∙ ap (exp_from p z n) (sym (add-one k))
+
+-- ---- the series of the terms to come
+pub same_alternating : (f g : ℕ → Pair) → ((k : ℕ) → f k ≡ g k) → alternating rounded f ≡ alternating rounded g
+same_alternating f g h = ap (alternating rounded) (λ i k. h k i)
+
+pub arc_alternating : (t p q : Pair) → p ≡ t → q ≡ R.product t t → alternating rounded (λ k. R.over (power_from p q k) (2 * (0 + k) + 1)) ≡ arc rounded t
+unfolding arc
+arc_alternating t p q e f = rw (e, f) (same_alternating _ _ (arc_terms_t t))
+
+pub exp_alternating : (z y : Pair) → z ≡ y → alternating rounded (λ k. exp_from (ends U U) z 0 k) ≡ alternating rounded (exp_term rounded y)
+exp_alternating z y e = rw e (same_alternating _ _ (exp_from_1 y))

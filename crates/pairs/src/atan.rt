@@ -6,16 +6,12 @@ ghost use Rattle.pairs.specs.Series as series;
 
 use super::answer::{Pair, Refusal};
 use super::arc::arc;
-use super::product::{UNIT, product};
+use super::product::product;
 use super::quotient::quotient;
 use super::root::root;
 use super::sum::sum;
 use super::times::times;
-
-const ONE: Pair = Pair {
-    low: UNIT,
-    high: UNIT,
-};
+use super::unit::ONE;
 
 // t/(1+root(1+t·t)).
 fn half_angle(t: Pair) -> Result<Pair, Refusal>

@@ -1,15 +1,22 @@
 // The difference of two pairs.
-ghost use Rattle.std.specs.Prelude.{◌≡◌, ◌-◌};
+ghost use Rattle.std.specs.Prelude.{◌≡◌};
+ghost use Rattle.pairs.specs.Rounded as rounded;
 ghost use Rattle.pairs.specs.Figures.{figures};
 ghost use Rattle.pairs.specs.Answers.{difference_of};
 
 use super::answer::{Pair, Refusal};
 
-// a - b, raised to 0 where below it.
-pub(crate) fn less(a: u64, b: u64) -> u64
-    ensures { result ≡ a - b }
-{
-    if b < a { a - b } else { 0 }
+impl Pair {
+    // The difference, of ends in any order.
+    #[tactic(auto, unfolding(crate::specs::Rounded::difference))]
+    pub(crate) fn less(self, q: Pair) -> Pair
+        ensures { result ≡ rounded.difference self q }
+    {
+        Pair {
+            low: self.low.saturating_sub(q.high),
+            high: self.high.saturating_sub(q.low),
+        }
+    }
 }
 
 // [a-d, b-c], each end raised to 0 where below it.
@@ -22,8 +29,5 @@ pub fn difference(p: Pair, q: Pair) -> Result<Pair, Refusal>
     if q.high < q.low {
         return Err(Refusal::Disordered);
     }
-    Ok(Pair {
-        low: less(p.low, q.high),
-        high: less(p.high, q.low),
-    })
+    Ok(p.less(q))
 }

@@ -1,34 +1,28 @@
 // The fifth root of a pair. A guess by Newton's steps narrows the bracket, and nothing is claimed of it; exact tests of the rounded
 // fifth power decide.
-ghost use Rattle.std.specs.Prelude.{◌≡◌, ◌+◌, ◌*◌, ◌-◌, ◌^◌, ◌≤◌, ◌<◌, ltb};
+ghost use Rattle.std.specs.Prelude.{◌≡◌, ◌*◌, ◌-◌, ◌^◌, ◌≤◌, ◌<◌, ltb};
 ghost use Rattle.pairs.specs.Rounded.{U, fifth_root_down, fifth_root_up};
 ghost use Rattle.pairs.specs.Figures.{figures};
 ghost use Rattle.pairs.specs.Answers.{fifth_root_of};
 ghost use Rattle.pairs.specs.Private.{fourth_power, Brackets};
 
 use super::answer::{Pair, Refusal};
-use super::product::{ROUND_UP, rounded_product};
-use super::words::{Words, below, divided, in_trillionths, multiplied, one_less};
+use super::division::divided;
+use super::product::{Rounding, rounded_product};
+use super::unit::in_trillionths;
 
 // The fifth power of this number of trillionths is above 2^64 - 1.
 const LIMIT: u64 = 28_391_212_775_636;
 
 // s·s·s·s.
-fn fourth_power(s: u64, extra: u64) -> u64
-    requires { (s ≤ 28_391_212_775_636) × (extra < 1_000_000) }
-    ensures { result ≡ fourth_power extra s }
+#[tactic(auto, unfolding(crate::specs::Private::fourth_power), using(crate::proofs::fifth_root::Powers::square_le, crate::proofs::fifth_root::Powers::cube_le, crate::proofs::fifth_root::Powers::fourth_le))]
+fn fourth_power(s: u64, rounding: Rounding) -> u64
+    requires { s ≤ 28_391_212_775_636 }
+    ensures { result ≡ fourth_power rounding s }
 {
-    let square = rounded_product(s, s, extra);
-    let cube = rounded_product(square, s, extra);
-    rounded_product(cube, s, extra)
-}
-
-// Whether s·s·s·s·s, before its last division by U, is above t.
-fn above(s: u64, t: Words, extra: u64) -> bool
-    requires { (s ≤ 28_391_212_775_636) × (extra < 1_000_000) }
-    ensures { result ≡ ltb (t.high * 2 ^ 64 + t.low) (fourth_power extra s * s) }
-{
-    below(t, multiplied(fourth_power(s, extra), s))
+    let square = rounded_product(s, s, rounding);
+    let cube = rounded_product(square, s, rounding);
+    rounded_product(cube, s, rounding)
 }
 
 // Near the fifth root of a word whose five upper bits are not all 0.
@@ -38,13 +32,7 @@ fn near_fifth_root(word: u64) -> u64
     let mut s: u64 = 5_500;
     for _ in 0..4u64 {
         let square = s * s;
-        s = (4 * s + word / (square * square)) / 5;
-        if s < 3_000 {
-            s = 3_000;
-        }
-        if 8_000 < s {
-            s = 8_000;
-        }
+        s = ((4 * s + word / (square * square)) / 5).clamp(3_000, 8_000);
     }
     s
 }
@@ -54,17 +42,16 @@ fn nearer(s: u64, x: u64) -> u64
     requires { s ≤ 28_391_212_775_636 }
     ensures { result ≤ 28_391_212_775_636 }
 {
-    let power = fourth_power(s, 0);
+    let power = fourth_power(s, Rounding::Down);
     let n = in_trillionths(x);
-    if power <= n.high {
+    if u128::from(power) <= n >> 64 {
         return s;
     }
     let part = divided(n, power);
     if 4 * LIMIT < part {
         return s;
     }
-    let next = (4 * s + part) / 5;
-    if LIMIT < next { LIMIT } else { next }
+    ((4 * s + part) / 5).min(LIMIT)
 }
 
 // Near the fifth root of x trillionths: 3,981,071,706 trillionths is near that of one.
@@ -72,7 +59,7 @@ fn guess(x: u64) -> u64
     requires { 0 < x }
     ensures { result ≤ 28_391_212_775_636 }
 {
-    let fifths = u64::leading_zeros(x) / 5;
+    let fifths = x.leading_zeros() / 5;
     let s = near_fifth_root(x << (5 * fifths)) * 3_981_071_706 >> fifths;
     if LIMIT < s {
         return LIMIT;
@@ -80,65 +67,68 @@ fn guess(x: u64) -> u64
     nearer(nearer(s, x), x)
 }
 
-// Two numbers, the fifth power of the lower at most a bound, and that of the upper above it.
+// Two numbers, the fifth power of the lower, before its last division by U, at most a bound, and that of the upper above it.
 #[derive(Clone, Copy)]
 struct Bracket {
     lower: u64,
     upper: u64,
+    bound: u128,
+    rounding: Rounding,
+    ghost brackets: { Brackets rounding bound lower upper },
 }
 
-// The part of the bracket below or above `at`.
-fn narrowed(b: Bracket, at: u64, t: Words, extra: u64) -> Bracket
-    requires rounding { extra < 1_000_000 }
-    requires brackets { Brackets extra (t.high * 2 ^ 64 + t.low) b.lower b.upper }
-    ensures kept { Brackets extra (t.high * 2 ^ 64 + t.low) result.lower result.upper }
-    ensures narrower { b.lower < at → at < b.upper → result.upper - result.lower < b.upper - b.lower }
-{
-    if at <= b.lower {
-        return b;
+impl Bracket {
+    // The bracket of all numbers.
+    #[tactic(auto, using(crate::proofs::fifth_root::Powers::all_numbers))]
+    fn all(bound: u128, rounding: Rounding) -> Bracket
+        requires { bound < 2 ^ 64 * U }
+        ensures { (result.bound ≡ bound) × (result.rounding ≡ rounding) }
+    {
+        Bracket {
+            lower: 0,
+            upper: LIMIT,
+            bound,
+            rounding,
+        }
     }
-    if b.upper <= at {
-        return b;
-    }
-    let high = above(at, t, extra);
-    if high {
-        return Bracket {
-            lower: b.lower,
-            upper: at,
-        };
-    }
-    Bracket {
-        lower: at,
-        upper: b.upper,
+
+    // The part of the bracket below or above `at`.
+    fn narrowed(self, at: u64) -> Bracket
+        ensures same { (result.bound ≡ self.bound) × (result.rounding ≡ self.rounding) }
+        ensures narrower { self.lower < at → at < self.upper → result.upper - result.lower < self.upper - self.lower }
+    {
+        if at <= self.lower || self.upper <= at {
+            return self;
+        }
+        if self.bound < u128::from(fourth_power(at, self.rounding)) * u128::from(at) {
+            return Bracket {
+                lower: self.lower,
+                upper: at,
+                bound: self.bound,
+                rounding: self.rounding,
+            };
+        }
+        Bracket {
+            lower: at,
+            upper: self.upper,
+            bound: self.bound,
+            rounding: self.rounding,
+        }
     }
 }
 
-// The bracket of all numbers, narrowed about a guess at the fifth root of x.
-fn bracket_near(x: u64, t: Words, extra: u64) -> Bracket
-    requires { (0 < x) × (extra < 1_000_000) × (t.high * 2 ^ 64 + t.low < 2 ^ 64 * U) }
-    ensures { Brackets extra (t.high * 2 ^ 64 + t.low) result.lower result.upper }
+// The first number whose fifth power, before its last division by U, is above the bound; x trillionths is near the bound.
+fn first_above(x: u64, bound: u128, rounding: Rounding) -> u64
+    requires { (0 < x) × (bound < 2 ^ 64 * U) }
+    ensures { Brackets rounding bound (result - 1) result }
 {
     let near = guess(x);
     let span = near / x + 4;
-    let all = Bracket {
-        lower: 0,
-        upper: LIMIT,
-    };
-    let below_it = narrowed(all, near + span, t, extra);
-    if near <= span {
-        return below_it;
-    }
-    narrowed(below_it, near - span, t, extra)
-}
-
-// The first number whose fifth power, before its last division by U, is above t.
-fn first_above(x: u64, t: Words, extra: u64) -> u64
-    requires { (0 < x) × (extra < 1_000_000) × (t.high * 2 ^ 64 + t.low < 2 ^ 64 * U) }
-    ensures { Brackets extra (t.high * 2 ^ 64 + t.low) (result - 1) result }
-{
-    let mut b = bracket_near(x, t, extra);
+    let mut b = Bracket::all(bound, rounding)
+        .narrowed(near + span)
+        .narrowed(near.saturating_sub(span));
     while 1 < b.upper - b.lower {
-        b = narrowed(b, b.lower + (b.upper - b.lower) / 2, t, extra);
+        b = b.narrowed(b.lower + (b.upper - b.lower) / 2);
     }
     b.upper
 }
@@ -150,7 +140,7 @@ fn fifth_root_down_of(a: u64) -> u64
     if a == 0 {
         return 0;
     }
-    first_above(a, in_trillionths(a), ROUND_UP) - 1
+    first_above(a, in_trillionths(a), Rounding::Up) - 1
 }
 
 // The least s whose fifth power, each product rounded down, is at least b.
@@ -160,7 +150,7 @@ fn fifth_root_up_of(b: u64) -> u64
     if b == 0 {
         return 0;
     }
-    first_above(b, one_less(in_trillionths(b)), 0)
+    first_above(b, in_trillionths(b) - 1, Rounding::Down)
 }
 
 // [fifth root of a down, fifth root of b up].

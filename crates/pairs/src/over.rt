@@ -1,18 +1,25 @@
 // A pair over a whole number.
-ghost use Rattle.std.specs.Prelude.{◌≡◌, ◌<◌};
-ghost use Rattle.pairs.specs.Rounded.{up};
+ghost use Rattle.std.specs.Prelude.{◌≡◌, ◌≤◌, ◌<◌};
+ghost use Rattle.pairs.specs.Rounded as rounded;
 ghost use Rattle.pairs.specs.Figures.{figures};
 ghost use Rattle.pairs.specs.Answers.{over_of};
 
 use super::answer::{Pair, Refusal};
 
-// b/n, rounded up.
-pub(crate) fn divided_up(b: u64, n: u64) -> u64
-    requires { 0 < n }
-    ensures { result ≡ up b n }
-{
-    let whole = b / n;
-    if b % n == 0 { whole } else { whole + 1 }
+impl Pair {
+    // The part, of a number that is not 0.
+    #[tactic(auto, unfolding(crate::specs::Rounded::over, crate::specs::Rounded::down), using(crate::proofs::Rounding::up_of_ceil, crate::proofs::Turns::over_small))]
+    pub(crate) fn part(self, n: u64) -> Pair
+        requires { 0 < n }
+        ensures is { result ≡ rounded.over self n }
+        ensures no_higher { result.high ≤ self.high }
+        ensures ordered { self.low ≤ self.high → result.low ≤ result.high }
+    {
+        Pair {
+            low: self.low / n,
+            high: self.high.div_ceil(n),
+        }
+    }
 }
 
 // [a/n down, b/n up].
@@ -25,8 +32,5 @@ pub fn over(p: Pair, n: u64) -> Result<Pair, Refusal>
     if n == 0 {
         return Err(Refusal::ZeroDivisor);
     }
-    Ok(Pair {
-        low: p.low / n,
-        high: divided_up(p.high, n),
-    })
+    Ok(p.part(n))
 }

@@ -7,7 +7,8 @@ ghost use Rattle.pairs.specs.Answers.{root_of};
 ghost use Rattle.std.specs.Int.Count.{count_leading_zeros};
 
 use super::answer::{Pair, Refusal};
-use super::words::{Words, below, divided, in_trillionths, multiplied, one_less};
+use super::division::divided;
+use super::unit::in_trillionths;
 
 // The starting number of i: the greatest s with s·s at most 65,536·i. A parabola guesses it, within 2 in 100, and Newton's steps run
 // until it is reached: one for most i, two for the rest.
@@ -34,93 +35,67 @@ fn near_root(word: u64) -> u64
     (second + word / second) / 2
 }
 
-// The upper word of high·2^64 + low after an even power of two, found from the leading zero bits of high, has brought it into the span
-// of the starting numbers.
-fn scaled(high: u64, low: u64) -> u64
-    requires { 0 < high }
-    ensures { (result ≡ (high * 2 ^ 64 + low) * 2 ^ (2 * (count_leading_zeros 64 high / 2)) / 2 ^ 64) × (2 ^ 62 ≤ result) }
+// The upper word of n after an even power of two, found from its leading zero bits, has brought it into the span of the starting
+// numbers.
+fn scaled(n: u128) -> u64
+    requires { 0 < n }
+    ensures { (result ≡ n * 2 ^ (2 * (count_leading_zeros 128 n / 2)) / 2 ^ 64) × (2 ^ 62 ≤ result) }
 {
-    let zeros = u64::leading_zeros(high);
-    ((high << zeros) + (low / 2 >> (63 - zeros))) >> (zeros % 2)
+    ((n << (2 * (n.leading_zeros() / 2))) >> 64) as u64
 }
 
-// Near the root of n, scaled by its high word, or by its low word where the high one is 0.
-fn start(n: Words) -> u64
-    requires { (n.high < 2 ^ 40) × (0 < n.high + n.low) }
+// Near the root of n.
+fn start(n: u128) -> u64
+    requires { n < 2 ^ 104 }
     ensures { result < 2 ^ 63 }
 {
-    let high = n.high;
-    let low = n.low;
-    if high == 0 {
-        return near_root(scaled(low, 0)) >> (u64::leading_zeros(low) / 2);
+    if n == 0 {
+        return 0;
     }
-    near_root(scaled(high, low)) << (32 - u64::leading_zeros(high) / 2)
+    ((u128::from(near_root(scaled(n))) << 32) >> (n.leading_zeros() / 2)) as u64
 }
 
-// One of Newton's steps towards the root of high·2^64 + low.
-fn refined(high: u64, low: u64, s: u64) -> u64
-    requires { (2 * high + 1 < s) × (s < 2 ^ 63) }
-    ensures { (result ≡ (s + (high * 2 ^ 64 + low) / s) / 2) × (result < 2 ^ 63) }
+// One of Newton's steps towards the root of n.
+fn refined(n: u128, s: u64) -> u64
+    requires { (0 < s) × (n ≤ s * 2 ^ 63) × (s < 2 ^ 63) }
+    ensures { (result ≡ (s + n / s) / 2) × (result < 2 ^ 63) }
 {
-    (s + divided(Words { high, low }, s)) / 2
+    (s + divided(n, s)) / 2
 }
 
 // The greatest s with s·s at most n, from any number to start with.
-fn whole_root(n: Words, near: u64) -> u64
-    requires { (n.high < 2 ^ 40) × (2 ^ 32 ≤ n.high * 2 ^ 64 + n.low) × (near < 2 ^ 63) }
-    ensures { result ≡ root_down (n.high * 2 ^ 64 + n.low) }
+fn whole_root(n: u128, near: u64) -> u64
+    requires { (n < 2 ^ 104) × (near < 2 ^ 63) }
+    ensures { result ≡ root_down n }
 {
-    let high = n.high;
-    let low = n.low;
-    let least = 2 * high + 2;
-    let mut s = refined(high, low, if near < least { least } else { near });
-    while below(n, multiplied(s, s)) {
-        s = refined(high, low, s);
+    let least = 2 * (n >> 64) as u64 + 2;
+    let mut s = refined(n, near.max(least));
+    while n < u128::from(s) * u128::from(s) {
+        s = refined(n, s);
     }
     s
 }
 
-// Near the root of a·U.
-fn start_of(a: u64) -> u64
-    ensures { result < 2 ^ 63 }
+// The least s with s·s at least n: one more than the root of n - 1.
+fn whole_root_up(n: u128, near: u64) -> u64
+    requires { (n < 2 ^ 104) × (near < 2 ^ 63) }
+    ensures { result ≡ root_up n }
 {
-    if a == 0 {
+    if n == 0 {
         return 0;
     }
-    start(in_trillionths(a))
-}
-
-// The greatest s with s·s at most a·U.
-fn root_down_of(a: u64, near: u64) -> u64
-    requires { near < 2 ^ 63 }
-    ensures { result ≡ root_down (a * U) }
-{
-    if a == 0 {
-        return 0;
-    }
-    whole_root(in_trillionths(a), near)
-}
-
-// The least s with s·s at least b·U: one more than the root of b·U - 1.
-fn root_up_of(b: u64, near: u64) -> u64
-    requires { near < 2 ^ 63 }
-    ensures { result ≡ root_up (b * U) }
-{
-    if b == 0 {
-        return 0;
-    }
-    whole_root(one_less(in_trillionths(b)), near) + 1
+    whole_root(n - 1, near) + 1
 }
 
 // The start of the high end: that of the low end where the two are close together.
-fn high_start(a: u64, b: u64, near: u64) -> u64
-    requires { (a ≤ b) × (near < 2 ^ 63) }
+fn high_start(p: Pair, near: u64) -> u64
+    requires { (p.low ≤ p.high) × (near < 2 ^ 63) }
     ensures { result < 2 ^ 63 }
 {
-    if b - a <= a / 0x100_0000 {
+    if p.high - p.low <= p.low / 0x100_0000 {
         return near;
     }
-    start_of(b)
+    start(in_trillionths(p.high))
 }
 
 // [root of aU down, root of bU up].
@@ -130,11 +105,9 @@ pub fn root(p: Pair) -> Result<Pair, Refusal>
     if p.high < p.low {
         return Err(Refusal::Disordered);
     }
-    let a = p.low;
-    let b = p.high;
-    let near = start_of(a);
+    let near = start(in_trillionths(p.low));
     Ok(Pair {
-        low: root_down_of(a, near),
-        high: root_up_of(b, high_start(a, b, near)),
+        low: whole_root(in_trillionths(p.low), near),
+        high: whole_root_up(in_trillionths(p.high), high_start(p, near)),
     })
 }

@@ -1,9 +1,24 @@
 // The sum of two pairs.
-ghost use Rattle.std.specs.Prelude.{◌≡◌};
+ghost use Rattle.std.specs.Prelude.{◌≡◌, ◌+◌, ◌^◌, ◌≤◌, ◌<◌};
+ghost use Rattle.pairs.specs.Rounded as rounded;
 ghost use Rattle.pairs.specs.Figures.{figures};
 ghost use Rattle.pairs.specs.Answers.{sum_of};
 
 use super::answer::{Pair, Refusal};
+
+impl Pair {
+    // The sum, where it fits.
+    #[tactic(auto, unfolding(crate::specs::Rounded::sum))]
+    pub(crate) fn plus(self, q: Pair) -> Pair
+        requires { (self.low ≤ self.high) × (q.low ≤ q.high) × (self.high + q.high < 2 ^ 64) }
+        ensures { result ≡ rounded.sum self q }
+    {
+        Pair {
+            low: self.low + q.low,
+            high: self.high + q.high,
+        }
+    }
+}
 
 // [a+c, b+d].
 pub fn sum(p: Pair, q: Pair) -> Result<Pair, Refusal>
@@ -18,8 +33,5 @@ pub fn sum(p: Pair, q: Pair) -> Result<Pair, Refusal>
     if u64::MAX - p.high < q.high {
         return Err(Refusal::TooLarge);
     }
-    Ok(Pair {
-        low: p.low + q.low,
-        high: p.high + q.high,
-    })
+    Ok(p.plus(q))
 }

@@ -5,74 +5,72 @@ use Prim.Native.Nat.{ℕ, zero, suc, ◌+◌, ◌*◌, ◌-◌, ◌^◌, ◌≤�
 use native.Mathlib.Nat.{le_trans, le_refl, lt_of_lt_of_le, mul-le-mul, mul-le-mul_right, mul-zero}
 use native.Mathlib.Omega.{arith}
 use lib.Dec.{lit<, lit≤}
+use Rattle.pairs.specs.declared.product.Rounding.{Rounding}
+use Rattle.pairs.specs.declared.product.Rounding.TheVariants.{Down, Up}
 use Rattle.pairs.specs.Rounded.{U, up, down, fifth_power_up, fifth_power_down, fifth_root_down, fifth_root_up}
 use Rattle.pairs.specs.Private.{carried, fourth_power, Brackets}
-use Rattle.pairs.proofs.product.Parts.{carried_down}
+use Rattle.pairs.proofs.product.Parts.{carried_at_most, carried_at_least}
 use Rattle.pairs.proofs.Search.{fifth_root_down_is, fifth_root_up_is, fifth_root_up_bound}
 
--- The code's LIMIT, and its extra for rounding up.
+-- The code's LIMIT.
 abbrev pub limit : ℕ
 limit = 28_391_212_775_636
 
-abbrev pub round_up : ℕ
-round_up = 999_999
-
-carried_grows : {e f m n : ℕ} → e ≤ f → m ≤ n → carried e m ≤ carried f n
-unfolding carried
-carried_grows {e} {f} {m} {n} h k = omega arith
-
 -- ---- each product on the way to the fourth power, at most what it is at the limit
-module _ (e s : ℕ) (h : e < 1_000_000) (k : s ≤ limit) where
-  pub square_le : carried e (s * s) ≤ 806_060_962_871_437
-  unfolding carried
-  square_le = carried_grows {f = round_up} {n = limit * limit} (omega arith) (mul-le-mul k k)
+module _ (r : Rounding) (s : ℕ) (k : s ≤ limit) where
+  pub square_le : carried r (s * s) ≤ 806_060_962_871_437
+  unfolding up
+  square_le = carried_at_most r {n = limit * limit} (mul-le-mul k k)
 
-  pub cube_le : carried e (carried e (s * s) * s) ≤ 22_885_048_307_016_998
-  unfolding carried
-  cube_le = carried_grows {f = round_up} {n = 806_060_962_871_437 * limit} (omega arith) (mul-le-mul square_le k)
+  pub cube_le : carried r (carried r (s * s) * s) ≤ 22_885_048_307_016_998
+  unfolding up
+  cube_le = carried_at_most r {n = 806_060_962_871_437 * limit} (mul-le-mul square_le k)
 
-  pub fourth_le : fourth_power e s ≤ 649_734_275_865_228_007
-  unfolding fourth_power carried
-  fourth_le = carried_grows {f = round_up} {n = 22_885_048_307_016_998 * limit} (omega arith) (mul-le-mul cube_le k)
+  pub fourth_le : fourth_power r s ≤ 649_734_275_865_228_007
+  unfolding fourth_power up
+  fourth_le = carried_at_most r {n = 22_885_048_307_016_998 * limit} (mul-le-mul cube_le k)
 
 -- ---- the first bracket: all numbers up to the limit
-fourth_grows : (e s : ℕ) → fourth_power 0 s ≤ fourth_power e s
+fourth_grows : (r : Rounding) (s : ℕ) → fourth_power Down s ≤ fourth_power r s
 unfolding fourth_power
-fourth_grows e s =
-    carried_grows zero-le (mul-le-mul_right s (carried_grows zero-le (mul-le-mul_right s (carried_grows zero-le (le_refl (s * s))))))
+fourth_grows r s =
+    carried_at_least r (mul-le-mul_right s (carried_at_least r (mul-le-mul_right s (carried_at_least r (le_refl (s * s))))))
 
-limit_past : (e : ℕ) → 2 ^ 64 * U ≤ fourth_power e limit * limit
-unfolding fourth_power carried
-limit_past e = le_trans (lit≤ {m = 2 ^ 64 * U} {n = fourth_power 0 limit * limit} tt) (mul-le-mul_right limit (fourth_grows e limit))
+limit_past_down : 2 ^ 64 * U ≤ fourth_power Down limit * limit
+unfolding fourth_power down
+limit_past_down = lit≤ {m = 2 ^ 64 * U} {n = fourth_power Down limit * limit} tt
 
-pub all_numbers : (e t : ℕ) → t < 2 ^ 64 * U → Brackets e t 0 limit
-all_numbers e t h =
+limit_past : (r : Rounding) → 2 ^ 64 * U ≤ fourth_power r limit * limit
+limit_past r = le_trans limit_past_down (mul-le-mul_right limit (fourth_grows r limit))
+
+pub all_numbers : (r : Rounding) (t : ℕ) → t < 2 ^ 64 * U → Brackets r t 0 limit
+all_numbers r t h =
     record {
       ordered = lit< tt;
       limit = le_refl limit;
       within = rw mul-zero zero-le;
-      beyond = lt_of_lt_of_le h (limit_past e);
+      beyond = lt_of_lt_of_le h (limit_past r);
     }
 
 -- ---- a bracket narrowed at a number inside it
-module _ {e t l u : ℕ} (b : Brackets e t l u) (n : ℕ) (h : l < n) (k : n < u) where
-  pub upper_moved : t < fourth_power e n * n → Brackets e t l n
+module _ {r : Rounding} {t l u : ℕ} (b : Brackets r t l u) (n : ℕ) (h : l < n) (k : n < u) where
+  pub upper_moved : t < fourth_power r n * n → Brackets r t l n
   upper_moved p = record { ordered = h; limit = omega (arith, b.limit); within = b.within; beyond = p }
 
-  pub lower_moved : fourth_power e n * n ≤ t → Brackets e t n u
+  pub lower_moved : fourth_power r n * n ≤ t → Brackets r t n u
   lower_moved p = record { ordered = k; limit = b.limit; within = p; beyond = b.beyond }
 
-pub neighbours : {e t l u : ℕ} → Brackets e t l u → u - l ≤ 1 → Brackets e t (u - 1) u
-neighbours {e} {t} {l} {u} b h = let p : u - 1 ≡ l = omega (arith, b.ordered) in rw p b
+pub neighbours : {r : Rounding} {t l u : ℕ} → Brackets r t l u → u - l ≤ 1 → Brackets r t (u - 1) u
+neighbours {r} {t} {l} {u} b h = let p : u - 1 ≡ l = omega (arith, b.ordered) in rw p b
 
 -- ---- the fifth power is the last division of the fourth times s
-up_power : (s : ℕ) → fifth_power_up s ≡ up (fourth_power round_up s * s) U
-unfolding fifth_power_up fourth_power carried up
+up_power : (s : ℕ) → fifth_power_up s ≡ up (fourth_power Up s * s) U
+unfolding fifth_power_up fourth_power
 up_power s = refl
 
-down_power : (s : ℕ) → fifth_power_down s ≡ down (fourth_power 0 s * s) U
+down_power : (s : ℕ) → fifth_power_down s ≡ down (fourth_power Down s * s) U
 unfolding fifth_power_down fourth_power
-down_power s = simp carried_down
+down_power s = refl
 
 up_within : (n a : ℕ) → n ≤ a * U → up n U ≤ a
 unfolding up
@@ -90,24 +88,14 @@ down_reaches : (n b t : ℕ) → t + 1 ≡ b * U → t < n → b ≤ down n U
 unfolding down
 down_reaches n b t e h = omega arith
 
--- ---- the bound of the search: a·U, or 1 less
-pub scaled_below : (a t : ℕ) → a < 2 ^ 64 → t ≡ a * U → t < 2 ^ 64 * U
-scaled_below a t h e = omega arith
-
-pub less_below : (b t : ℕ) → b < 2 ^ 64 → t + 1 ≡ b * U → t < 2 ^ 64 * U
-less_below b t h e = omega arith
-
-pub some_word : (b h l : ℕ) → zero < b → h * 2 ^ 64 + l ≡ b * U → zero < h + l
-some_word b h l p e = omega arith
-
 -- ---- neighbours name the root
-pub named_down : (a t s : ℕ) → t ≡ a * U → Brackets round_up t (s - 1) s → s - 1 ≡ fifth_root_down a
+pub named_down : (a t s : ℕ) → t ≡ a * U → Brackets Up t (s - 1) s → s - 1 ≡ fifth_root_down a
 named_down a t zero e b = absurd (omega (arith, b.ordered))
 named_down a t (suc s) e b =
     let p : suc s - 1 ≡ s = omega arith in
     p ∙ sym (fifth_root_down_is a s (rw up_power (up_within _ _ (rw (p, e) at b.within))) (rw up_power (up_past _ _ (rw e at b.beyond))))
 
-pub named_up : (b t s : ℕ) → t + 1 ≡ b * U → Brackets 0 t (s - 1) s → s ≡ fifth_root_up b
+pub named_up : (b t s : ℕ) → t + 1 ≡ b * U → Brackets Down t (s - 1) s → s ≡ fifth_root_up b
 named_up b t zero e k = absurd (omega (arith, k.ordered))
 named_up b t (suc s) e k =
     let p : suc s - 1 ≡ s = omega arith in

@@ -4,19 +4,18 @@ use mathlib.Core.Path.{◌≡◌, refl, sym, ap, ap₂, ◌∙◌}
 use Prim.Native.Nat.{ℕ, ◌+◌, ◌*◌, ◌-◌, ◌/◌, ◌%◌, ◌^◌, ◌≤◌, ◌<◌}
 use native.Mathlib.Nat.{mul-le-mul, div-add-mod', add-zero}
 use native.Mathlib.Omega.{arith}
+use Rattle.pairs.specs.declared.product.Rounding.{Rounding}
+use Rattle.pairs.specs.declared.product.Rounding.TheVariants.{Down, Up}
 use Rattle.pairs.specs.Rounded.{U, down, up}
-use Rattle.pairs.specs.Private.{carried}
+use Rattle.pairs.specs.Private.{extra_of, carried}
 
 abbrev pub M : ℕ
 M = 1_000_000
 
-pub carried_down : (n : ℕ) → carried 0 n ≡ down n U
-unfolding carried down
-carried_down n = ap (λ (x : ℕ). x / U) (add-zero n)
-
-pub carried_up : (n : ℕ) → carried 999_999 n ≡ up n U
-unfolding carried up
-carried_up n = refl
+pub carried_is : (r : Rounding) (n : ℕ) → carried r n ≡ (n + extra_of r * 1_000_001) / U
+unfolding down up
+carried_is Down n = ap (λ (x : ℕ). x / U) (sym (add-zero n))
+carried_is Up n = refl
 
 -- a·c, with c by base 10^6
 by_base : (a c : ℕ) → a * (c / M) * M + a * (c % M) ≡ a * c
@@ -28,15 +27,10 @@ by_base a c = split a (c / M) (c % M) ∙ ap (λ (x : ℕ). a * x) (div-add-mod'
 nested : (x y e : ℕ) → (x + (y + e) / M + e) / M ≡ (x * M + y + e * 1_000_001) / U
 nested x y e = omega arith
 
-pub fraction_is : (a c e : ℕ) → (a * (c / M) + (a * (c % M) + e) / M + e) / M ≡ carried e (a * c)
-unfolding carried
-fraction_is a c e = nested (a * (c / M)) (a * (c % M)) e ∙ ap (λ (x : ℕ). (x + e * 1_000_001) / U) (by_base a c)
-
-pub upper_le : (a c : ℕ) → a ≤ U → c ≤ U → a * (c / M) ≤ U * M
-upper_le a c h k = mul-le-mul {n₂ = U} {m₂ = M} h (omega arith)
-
-pub lower_le : (a c : ℕ) → a ≤ U → a * (c % M) ≤ U * (M - 1)
-lower_le a c h = mul-le-mul {n₂ = U} {m₂ = M - 1} h (omega arith)
+pub fraction_is : (r : Rounding) (a c : ℕ) → (a * (c / M) + (a * (c % M) + extra_of r) / M + extra_of r) / M ≡ carried r (a * c)
+fraction_is r a c =
+    nested (a * (c / M)) (a * (c % M)) (extra_of r) ∙ ap (λ (x : ℕ). (x + extra_of r * 1_000_001) / U) (by_base a c)
+    ∙ sym (carried_is r (a * c))
 
 -- a·c by units and fractions
 expanded : (a1 a0 c1 c0 : ℕ) → (a1 * U + a0) * (c1 * U + c0) ≡ (a1 * c1 * U + a1 * c0 + a0 * c1) * U + a0 * c0
@@ -45,27 +39,26 @@ expanded a1 a0 c1 c0 = omega arith
 whole_out : (w z e : ℕ) → (w * U + z + e) / U ≡ w + (z + e) / U
 whole_out w z e = omega arith
 
-pub parts : (a c e : ℕ) → carried e (a * c) ≡ a / U * (c / U) * U + a / U * (c % U) + a % U * (c / U) + carried e (a % U * (c % U))
-unfolding carried
-parts a c e =
-    ap (λ (x : ℕ). (x + e * 1_000_001) / U)
+pub parts : (r : Rounding) (a c : ℕ) → carried r (a * c) ≡ a / U * (c / U) * U + a / U * (c % U) + a % U * (c / U) + carried r (a % U * (c % U))
+parts r a c =
+    carried_is r (a * c)
+    ∙ ap (λ (x : ℕ). (x + extra_of r * 1_000_001) / U)
     (ap₂ (λ (x y : ℕ). x * y) (sym (div-add-mod' a U)) (sym (div-add-mod' c U)) ∙ expanded (a / U) (a % U) (c / U) (c % U))
-    ∙ whole_out (a / U * (c / U) * U + a / U * (c % U) + a % U * (c / U)) (a % U * (c % U)) (e * 1_000_001)
-
--- the products of parts, each of at most one word
-units_le : (a : ℕ) → a < 2 ^ 64 → a / U ≤ 18_446_744
-units_le a h = omega arith
-
-pub whole_le : (a c : ℕ) → a < 2 ^ 64 → c < 2 ^ 64 → a / U * (c / U) ≤ 18_446_744 * 18_446_744
-whole_le a c h k = mul-le-mul {n₂ = 18_446_744} {m₂ = 18_446_744} (units_le a h) (units_le c k)
-
-pub left_le : (a c : ℕ) → a < 2 ^ 64 → a / U * (c % U) ≤ 18_446_744 * (U - 1)
-left_le a c h = mul-le-mul {n₂ = 18_446_744} {m₂ = U - 1} (units_le a h) (omega arith)
-
-pub right_le : (a c : ℕ) → c < 2 ^ 64 → a % U * (c / U) ≤ (U - 1) * 18_446_744
-right_le a c h = mul-le-mul {n₂ = U - 1} {m₂ = 18_446_744} (omega arith) (units_le c h)
+    ∙ whole_out (a / U * (c / U) * U + a / U * (c % U) + a % U * (c / U)) (a % U * (c % U)) (extra_of r * 1_000_001)
+    ∙ ap (λ (x : ℕ). a / U * (c / U) * U + a / U * (c % U) + a % U * (c / U) + x) (sym (carried_is r (a % U * (c % U))))
 
 -- a smaller product, rounded down, is no larger than a larger one, rounded up
-pub carried_mono : (m n : ℕ) → m ≤ n → carried 0 m ≤ carried 999_999 n
-unfolding carried
+pub carried_mono : (m n : ℕ) → m ≤ n → carried Down m ≤ carried Up n
+unfolding down up
 carried_mono m n h = omega arith
+
+-- each product is at most that of a larger number, rounded up, and at least that of a smaller one, rounded down
+pub carried_at_most : (r : Rounding) {m n : ℕ} → m ≤ n → carried r m ≤ up n U
+unfolding up
+carried_at_most Down h = carried_mono _ _ h
+carried_at_most Up h = omega arith
+
+pub carried_at_least : (r : Rounding) {m n : ℕ} → m ≤ n → down m U ≤ carried r n
+unfolding down
+carried_at_least Down h = omega arith
+carried_at_least Up h = carried_mono _ _ h

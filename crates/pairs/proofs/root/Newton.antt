@@ -30,42 +30,35 @@ above_root n s p =
 pub falls : (n s : ℕ) → zero < s → n < s * s → (s + n / s) / 2 < s
 falls n s p h = let k : n / s < s = (div-lt_iff_lt-mul {k = s} {x = n} {y = s} p).1 h in omega arith
 
--- a number that is not below the root is well above the high word of the radicand
-pub clear_of_high : (h l s : ℕ) → h < 2 ^ 40 → 2 ^ 32 ≤ h * 2 ^ 64 + l → h * 2 ^ 64 + l < (s + 1) * (s + 1) → 2 * h + 1 < s
-clear_of_high h l s f g k =
-    elim (dec_lt (2 * h + 1) s) [
-      | yes j ↦ j
-      | no j ↦ absurd (too_near h l s f g k (mul-le-mul {n₁ = s + 1} {m₁ = s + 1} {n₂ = 2 * h + 2} {m₂ = 2 ^ 41} (omega arith) (omega arith)) (mul-le-mul {n₁ = s + 1} {m₁ = s + 1} {n₂ = 2 * h + 2} {m₂ = 2 * h + 2} (omega arith) (omega arith)))
+-- from a number that is not below the root, the quotient is at most 2^63
+fits : (n s : ℕ) → n < 2 ^ 104 → n < (s + 1) * (s + 1) → n ≤ s * 2 ^ 63
+fits n zero f h = omega arith
+fits n (suc s) f h =
+    elim (dec_lt (suc s) (2 ^ 61)) [
+      | yes k ↦ omega (arith, mul-le-mul {n₁ = suc s + 1} {m₁ = suc s + 1} {n₂ = 2 * suc s} {m₂ = 2 ^ 62} (omega arith) (omega arith))
+      | no k ↦ omega arith
     ]
-  where
-    too_near : (h l s : ℕ) → h < 2 ^ 40 → 2 ^ 32 ≤ h * 2 ^ 64 + l → h * 2 ^ 64 + l < (s + 1) * (s + 1) → (s + 1) * (s + 1) ≤ (2 * h + 2) * 2 ^ 41
-        → (s + 1) * (s + 1) ≤ (2 * h + 2) * (2 * h + 2) → ⊥
-    too_near zero l s f g k m n = omega arith
-    too_near (suc h) l s f g k m n = omega arith
 
 pub reached : (n s : ℕ) → s * s ≤ n → n < (s + 1) * (s + 1) → s ≡ root_down n
 reached n s h k = sym (root_down_is n s h (omega arith))
 
--- what one step from s keeps, of a radicand h·2^64 + l
-pub record Holds (h l s : ℕ) : Type 0 where
-  pub root_below : h * 2 ^ 64 + l < (s + 1) * (s + 1)
-  pub clear : 2 * h + 1 < s
+-- what one step from s keeps, of a radicand n
+pub record Holds (n s : ℕ) : Type 0 where
+  pub root_below : n < (s + 1) * (s + 1)
+  pub quotient : n ≤ s * 2 ^ 63
   pub short : s < 2 ^ 63
 
-pub stepped : (h l s r : ℕ) → h < 2 ^ 40 → 2 ^ 32 ≤ h * 2 ^ 64 + l → zero < s → (r ≡ (s + (h * 2 ^ 64 + l) / s) / 2) × (r < 2 ^ 63) → Holds h l r
-stepped h l s r f g p e =
-    let n : h * 2 ^ 64 + l < (r + 1) * (r + 1) = rw e.0 (above_root (h * 2 ^ 64 + l) s p) in
-    record { root_below = n; clear = clear_of_high h l r f g n; short = e.1 }
+pub stepped : (n s r : ℕ) → n < 2 ^ 104 → zero < s → (r ≡ (s + n / s) / 2) × (r < 2 ^ 63) → Holds n r
+stepped n s r f p e =
+    let below : n < (r + 1) * (r + 1) = rw e.0 (above_root n s p) in
+    record { root_below = below; quotient = fits n r f below; short = e.1 }
 
--- the first number to step from: the least that is clear of the high word, or any above it
-pub first_clear : (h x : ℕ) → h < 2 ^ 40 → x ≡ 2 * h + 2 → (2 * h + 1 < x) × (x < 2 ^ 63)
-first_clear h x f e = omega arith
+pub quotient_le : (n s : ℕ) → zero < s → n ≤ s * 2 ^ 63 → n / s ≤ 2 ^ 63
+quotient_le n s p h =
+    let k : n / s < 2 ^ 63 + 1 = (div-lt_iff_lt-mul {k = s} {x = n} {y = 2 ^ 63 + 1} p).1 (omega arith) in
+    omega arith
 
-pub any_clear : (h near x : ℕ) → near < 2 ^ 63 → 2 * h + 2 ≤ near → x ≡ near → (2 * h + 1 < x) × (x < 2 ^ 63)
-any_clear h near x f g e = omega arith
-
-pub clear_pos : (h s : ℕ) → 2 * h + 1 < s → zero < s
-clear_pos h s k = omega arith
-
-pub twice_fits : (h : ℕ) → h < 2 ^ 40 → (2 * h < 2 ^ 64) × (2 * h + 2 < 2 ^ 64)
-twice_fits h f = omega arith
+-- what has a square above another number is not 0
+pub above_0 : (n s : ℕ) → n < s * s → zero < s
+above_0 n zero h = absurd (omega arith)
+above_0 n (suc s) h = omega arith

@@ -7,13 +7,11 @@ use Rattle.pairs.proofs.Turned.{difference_turned}
 use Rattle.pairs.proofs.difference.difference.Goals as goal
 
 pub returns-then-p : goal.returns-then-p
-unfolding rounded.difference
 returns-then-p c = (difference_turned _ _).is_61 (omega arith)
 
 pub returns-then-q : goal.returns-then-q
-unfolding rounded.difference
 returns-then-q c = (difference_turned _ _).is_61_too (omega arith) (omega arith)
 
 pub returns : goal.returns
 unfolding rounded.difference
-returns c = rw (c.less.ensures, c.less-2.ensures) ((difference_turned _ _).is (omega arith) (omega arith) refl (omega arith))
+returns c = rw c.less.ensures ((difference_turned _ _).is (omega arith) (omega arith) refl (omega arith))

@@ -13,32 +13,23 @@ use Rattle.pairs.specs.Series.{alternating, exp_term, squared, exp_series}
 use Rattle.pairs.proofs.Lifted.{handed_on}
 use Rattle.pairs.proofs.Turned.{over_turned}
 use Rattle.pairs.proofs.Terms.{Within, exp_given}
-use Rattle.pairs.proofs.Turns.{over_is}
+use Rattle.pairs.proofs.Turns.{exp_alternating}
 use Rattle.pairs.proofs.Refusals.{exp_61, exp_63, exp_cold, exp_below_20}
 use Rattle.pairs.proofs.exp_neg.exp_neg.Goals as goal
 
 -- y over 256
-module _ (y : Pair) (high : ℕ) (o : y.low ≤ y.high) (small : y.high < 256 * U) (h : high ≡ up y.high 256) where
-  abbrev z : Pair
-  z = ends (y.low / 256) high
-
-  within : Within U z
-  unfolding up
+module _ (y : Pair) (o : y.low ≤ y.high) (small : y.high < 256 * U) where
+  within : Within U (R.over y 256)
+  unfolding R.over R.down R.up
   within = omega arith
 
-  over_256 : A.over (given y) 256 ≡ given z
+  over_256 : A.over (given y) 256 ≡ given (R.over y 256)
   unfolding A.over
-  over_256 =
-      let e : z ≡ R.over y 256 = over_is y z 256 refl h in
-      let fits : (R.over y 256).high < 2 ^ 64 = subst (λ (p : Pair). p.high < 2 ^ 64) e (small_enough within.high) in
-      sym ((over_turned y 256).is o refl fits) ∙ ap given (sym e)
-    where
-      small_enough : {n : ℕ} → n ≤ U → n < 2 ^ 64
-      small_enough l = omega arith
+  over_256 = sym ((over_turned y 256).is o refl (omega (arith, within.high)))
 
-  all_squares : (r : Pair) → r ≡ alternating rounded (exp_term rounded z) → squared answers 8 (given r) ≡ exp_series answers (given y)
+  all_squares : (r : Pair) → r ≡ alternating rounded (exp_term rounded (R.over y 256)) → squared answers 8 (given r) ≡ exp_series answers (given y)
   unfolding exp_series
-  all_squares r e = rw over_256 (ap (squared answers 8) (ap given e ∙ sym (exp_given z within)))
+  all_squares r e = rw over_256 (ap (squared answers 8) (ap given e ∙ sym (exp_given (R.over y 256) within)))
 
 -- k squares are made, and one more
 again : (k : ℕ) (x y z : Figures) → k < 8 → y ≡ A.product x x → squared answers (8 - k) x ≡ z → squared answers (8 - (k + 1)) y ≡ z
@@ -58,9 +49,10 @@ returns-then-y-ge256000000000000 c = exp_63 _ (omega arith) (omega arith)
 pub returns-then-y-ge20000000000000 : goal.returns-then-y-ge20000000000000
 returns-then-y-ge20000000000000 c = exp_cold _ (omega arith) (omega arith) (omega arith)
 
-pub alternating_exp-power-requires : goal.alternating_exp-power-requires
-alternating_exp-power-requires c = let y = c.args.y in
-    let w = within y _ (omega arith) (omega arith) c.divided_up.ensures in (w.ordered, w.high)
+pub invariant_of-alternating : goal.invariant_of-alternating
+invariant_of-alternating c =
+    let w = within c.args.y (omega arith) (omega arith) in
+    record { term_small = omega arith; z_small = rw c.part.ensures.is (w.ordered, w.high) }
 
 pub loop-preserved : goal.loop-preserved
 unfolding A.product
@@ -78,10 +70,10 @@ returns-in_err-power c =
     let k : ℕ = 8 - (c.loop.counter + 1) in
     handed_on (squared answers k) (still_refused k) _ _ _ c.from_residual.ensures.1 c.in_err-power.ensures
     ∙ again _ _ _ _ (omega arith) refl c.loop.invariant.1
-    ∙ all_squares _ _ (omega arith) (omega arith) c.divided_up.ensures _ c.alternating_exp-power.ensures
+    ∙ all_squares c.args.y (omega arith) (omega arith) _ (c.alternating-power.ensures ∙ exp_alternating _ _ c.part.ensures.is)
     ∙ exp_below_20 _ (omega arith) (omega arith) (omega arith)
 
 pub returns : goal.returns
 returns c = finished _ _ _ (omega arith) c.loop.invariant.1
-    ∙ all_squares _ _ (omega arith) (omega arith) c.divided_up.ensures _ c.alternating_exp-power.ensures
+    ∙ all_squares c.args.y (omega arith) (omega arith) _ (c.alternating-power.ensures ∙ exp_alternating _ _ c.part.ensures.is)
     ∙ exp_below_20 _ (omega arith) (omega arith) (omega arith)

@@ -4,4 +4,4 @@ use Rattle.pairs.proofs.product.Parts.{fraction_is}
 use Rattle.pairs.proofs.product.fraction.Goals as goal
 
 pub returns : goal.returns
-returns c = fraction_is c.args.a c.args.c c.args.extra
+returns c = rw c.extra-extra.ensures (fraction_is c.args.rounding c.args.a c.args.c)

@@ -7,11 +7,9 @@ use Rattle.pairs.proofs.Turned.{sum_turned}
 use Rattle.pairs.proofs.sum.sum.Goals as goal
 
 pub returns-then-p : goal.returns-then-p
-unfolding rounded.sum
 returns-then-p c = (sum_turned _ _).is_61 (omega arith)
 
 pub returns-then-q : goal.returns-then-q
-unfolding rounded.sum
 returns-then-q c = (sum_turned _ _).is_61_too (omega arith) (omega arith)
 
 pub returns-then-p-q : goal.returns-then-p-q
@@ -20,4 +18,4 @@ returns-then-p-q c = (sum_turned _ _).is_64 (omega arith) (omega arith) refl (om
 
 pub returns : goal.returns
 unfolding rounded.sum
-returns c = (sum_turned _ _).is (omega arith) (omega arith) refl (omega arith)
+returns c = rw c.plus.ensures ((sum_turned _ _).is (omega arith) (omega arith) refl (omega arith))

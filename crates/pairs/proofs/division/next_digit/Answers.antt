@@ -3,8 +3,8 @@
 use mathlib.Core.Path.{◌≡◌, ◌∙◌}
 use Prim.Native.Nat.{ℕ, zero, suc, ◌+◌, ◌*◌, ◌/◌, ◌%◌, ◌^◌, ◌≤◌, ◌<◌}
 use native.Mathlib.Omega.{arith}
-use Rattle.pairs.proofs.words.Digits.{B, unscaled}
-use Rattle.pairs.proofs.words.next_digit.Goals as goal
+use Rattle.pairs.proofs.division.Digits.{B, unscaled}
+use Rattle.pairs.proofs.division.next_digit.Goals as goal
 
 scale_pos : (d s : ℕ) → 2 ^ 63 ≤ d * s → zero < s
 scale_pos d zero h = omega arith

@@ -4,8 +4,8 @@ use mathlib.Core.Path.{◌≡◌}
 use Prim.Native.Nat.{ℕ, zero, suc, ◌+◌, ◌*◌, ◌-◌, ◌/◌, ◌%◌, ◌^◌, ◌≤◌, ◌<◌}
 use native.Mathlib.Nat.{mod-lt, div-add-mod', mul-le-mul}
 use native.Mathlib.Omega.{arith}
-use Rattle.pairs.proofs.words.Digits.{B, trial, trial_le, less_times}
-use Rattle.pairs.proofs.words.trial_digit.Goals as goal
+use Rattle.pairs.proofs.division.Digits.{B, trial, trial_le, less_times}
+use Rattle.pairs.proofs.division.trial_digit.Goals as goal
 
 -- r·2^32 + next and what the trial digit takes of its lower half, in terms of the divisor
 taken : (r x d : ℕ) → r * B + x + r / (d / B) * (d % B) ≡ r / (d / B) * d + (r % (d / B) * B + x)

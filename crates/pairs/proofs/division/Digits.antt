@@ -23,25 +23,9 @@ lower x = omega arith
 pub digits : (x y : ℕ) → x < B → y < B → x * y ≤ (B - 1) * (B - 1)
 digits x y h k = mul-le-mul {n₂ = B - 1} {m₂ = B - 1} (omega arith) (omega arith)
 
--- the product of two numbers of two digits, column by column
-pub columns :
-    (a1 a0 b1 b0 : ℕ) →
-    (a1 * b1 + (a1 * b0 + a0 * b0 / B) / B + (a0 * b1 + (a1 * b0 + a0 * b0 / B) % B) / B) * 2 ^ 64
-    + ((a0 * b1 + (a1 * b0 + a0 * b0 / B) % B) % B * B + a0 * b0 % B)
-    ≡ (a1 * B + a0) * (b1 * B + b0)
-columns a1 a0 b1 b0 = omega arith
-
 -- a quotient is named by what it leaves
 pub quotient_is : (n q d r : ℕ) → n ≡ q * d + r → r < d → n / d ≡ q
 quotient_is n q d r e h = div-eq_of_lt-le {k = q} d {m = n} (omega arith) (omega arith)
-
--- two tests that say the same
-pub same_test : (a b x y : ℕ) → (a < b → x < y) → (b ≤ a → y ≤ x) → ltb a b ≡ ltb x y
-same_test a b x y f g =
-    elim (dec_lt a b) [
-      | yes h ↦ lt-ltb a b h ∙ sym (lt-ltb x y (f h))
-      | no h ↦ let k : b ≤ a = omega arith in le-ltb a b k ∙ sym (le-ltb x y (g k))
-    ]
 
 -- k times d taken off q times d
 pub less_times : (q k d : ℕ) → k ≤ q → (q - k) * d + k * d ≡ q * d
@@ -76,33 +60,23 @@ pub two_digits : (h x1 x0 d q1 r1 q0 r0 : ℕ) → h * B + x1 ≡ q1 * d + r1 �
     → (h * 2 ^ 64 + (x1 * B + x0)) / d ≡ q1 * B + q0
 two_digits h x1 x0 d q1 r1 q0 r0 e f s = quotient_is (h * 2 ^ 64 + (x1 * B + x0)) (q1 * B + q0) d r0 (omega arith) s
 
--- the high word of b·U is far from full
-pub scaled_high : (h l b : ℕ) → h * 2 ^ 64 + l ≡ b * 1_000_000_000_000 → b < 2 ^ 64 → h < 2 ^ 40
-scaled_high h l b e f = omega arith
-
--- nor are both words of b·U 0
-pub scaled_above_0 : (h l b : ℕ) → (b ≡ zero → ⊥) → h * 2 ^ 64 + l ≡ b * 1_000_000_000_000 → zero < h + l
-scaled_above_0 zero zero b z e = omega arith
-scaled_above_0 zero (suc l) b z e = omega arith
-scaled_above_0 (suc h) l b z e = omega arith
-
--- a number whose highest set bit is bit j, times the power that makes 63 with j
-raised : (d j s : ℕ) → s + suc j ≡ 64 → 2 ^ j ≤ d → d < 2 ^ suc j → (2 ^ 63 ≤ d * 2 ^ s) × (d * 2 ^ s < 2 ^ 64)
-raised d j s e lo hi =
-    let p : j + s ≡ 63 = omega arith in
-    let q : suc j + s ≡ 64 = omega arith in (
+-- a number whose highest set bit is bit j, times the power that makes v with j
+raised : (v d j s : ℕ) → s + suc j ≡ suc v → 2 ^ j ≤ d → d < 2 ^ suc j → (2 ^ v ≤ d * 2 ^ s) × (d * 2 ^ s < 2 ^ suc v)
+raised v d j s e lo hi =
+    let p : j + s ≡ v = omega arith in
+    let q : suc j + s ≡ suc v = omega arith in (
       rw (sym (pow-add 2 j s), p) at (mul-le-mul_right (2 ^ s) lo),
       rw q at (shl_lt {a = d} (suc j) s hi),
     )
 
--- the leading zeros of a word, and what they scale it to
-pub record Leading (d z : ℕ) : Type 0 where
-  pub within : z < 64
-  pub from : 2 ^ 63 ≤ d * 2 ^ z
-  pub to : d * 2 ^ z < 2 ^ 64
+-- the leading zeros of a number of v + 1 bits, and what they scale it to
+pub record Leading (v d z : ℕ) : Type 0 where
+  pub within : z < suc v
+  pub from : 2 ^ v ≤ d * 2 ^ z
+  pub to : d * 2 ^ z < 2 ^ suc v
 
-pub leading : (d : ℕ) → zero < d → d < 2 ^ 64 → Leading d (count_leading_zeros 64 d)
-leading d p f =
-    let top = leading_top 64 d p f in
-    let r = raised d top.0 (count_leading_zeros 64 d) top.1 top.2 top.3 in
+pub leading : (v d : ℕ) → zero < d → d < 2 ^ suc v → Leading v d (count_leading_zeros (suc v) d)
+leading v d p f =
+    let top = leading_top (suc v) d p f in
+    let r = raised v d top.0 (count_leading_zeros (suc v) d) top.1 top.2 top.3 in
     record { within = omega (arith, top.1); from = r.0; to = r.1 }
