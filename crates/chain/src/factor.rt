@@ -1,6 +1,7 @@
 // Step 7: the configuration factor of a vertical, a horizontal or the tilted face, at any height of the target.
 // What depends on e alone is worked once for all factors of a target, and u, v and A once for both faces.
 ghost use Rattle.std.specs.Prelude.{◌≡◌, true, false};
+ghost use Rattle.std.specs.Int.Signed.{non_neg};
 ghost use Rattle.pairs.specs.Answers.{answers};
 ghost use Rattle.pairs.specs.Series.{atan};
 ghost use Rattle.chain.specs.Chain as chain;
@@ -136,23 +137,15 @@ impl Upright {
         (y / self.root).atan() / self.x
     }
 
-    // (y·y+x·x+1)/(u·v).
-    #[tactic(auto, unfolding(crate::specs::Chain::vertical_ratio, pairs::specs::Answers::constant, pairs::specs::Answers::fitting, pairs::specs::Rounded::constant))]
-    fn ratio(&self, seen: &Seen) -> Answer
-        requires { seen.now.e ≡ self.now.distance.e }
-        ensures { result ≡ chain.vertical_ratio answers seen.now.y self.now.distance.e }
-    {
-        (seen.yy + self.xx + Answer::exact(1_000_000_000_000)) / seen.product
-    }
-
     // The vertical face (B.2).
-    #[tactic(auto, unfolding(crate::specs::Chain::vertical))]
+    #[tactic(auto, unfolding(crate::specs::Chain::vertical, crate::specs::Chain::vertical_ratio, pairs::specs::Answers::constant, pairs::specs::Answers::fitting, pairs::specs::Rounded::constant))]
     fn vertical(&self, seen: &Seen) -> Answer
         requires { seen.now.e ≡ self.now.distance.e }
         ensures { result ≡ chain.vertical answers seen.now.y self.now.distance.e }
     {
         let slope = seen.y / self.x;
-        let facing = self.height_angle(seen.y) + slope * self.ratio(seen) * seen.tilt;
+        let ratio = (seen.yy + self.xx + Answer::exact(1_000_000_000_000)) / seen.product;
+        let facing = self.height_angle(seen.y) + slope * ratio * seen.tilt;
         (facing - slope * self.angle) / Answer::pi()
     }
 
@@ -175,14 +168,6 @@ impl Upright {
     {
         self.vertical_at(h) + between - self.vertical_at(h - l)
     }
-
-    // f(top) - f(base).
-    fn between(&self, top: &Seen, base: &Seen) -> Answer
-        requires { (top.now.e ≡ self.now.distance.e) × (base.now.e ≡ self.now.distance.e) }
-        ensures { result ≡ answers.difference (chain.vertical answers top.now.y self.now.distance.e) (chain.vertical answers base.now.y self.now.distance.e) }
-    {
-        self.vertical(top) - self.vertical(base)
-    }
 }
 
 impl Level {
@@ -194,14 +179,6 @@ impl Level {
     {
         let ratio = (seen.yy + self.distance.eg) / seen.product;
         (self.angle - ratio * seen.tilt) / Answer::pi()
-    }
-
-    // f(top) - f(base).
-    fn between(&self, top: &Seen, base: &Seen) -> Answer
-        requires { (top.now.e ≡ self.now.distance.e) × (base.now.e ≡ self.now.distance.e) }
-        ensures { result ≡ answers.difference (chain.horizontal answers top.now.y self.now.distance.e) (chain.horizontal answers base.now.y self.now.distance.e) }
-    {
-        self.horizontal(top) - self.horizontal(base)
     }
 }
 
@@ -245,23 +222,33 @@ impl Distance {
         let top = self.seen_at(l + h);
         let base = self.seen_at(h);
         match face {
-            Face::Vertical => self.upright().between(&top, &base),
-            Face::Horizontal => self.level().between(&top, &base),
-            Face::Tilted => most_exposed(
-                self.upright().between(&top, &base),
-                self.level().between(&top, &base),
-            ),
+            Face::Vertical => {
+                let up = self.upright();
+                up.vertical(&top) - up.vertical(&base)
+            }
+            Face::Horizontal => {
+                let level = self.level();
+                level.horizontal(&top) - level.horizontal(&base)
+            }
+            Face::Tilted => {
+                let up = self.upright();
+                let level = self.level();
+                most_exposed(
+                    up.vertical(&top) - up.vertical(&base),
+                    level.horizontal(&top) - level.horizontal(&base),
+                )
+            }
         }
     }
 }
 
-// The factor of a face, from the base up or below it.
-pub(crate) fn factor_at(above: bool, face: Face, l: Answer, h: Answer, e: Answer) -> Answer
+// The factor of a face at a height, from the base up or below it; h is its magnitude in radii.
+pub(crate) fn factor_at(height: i32, face: Face, l: Answer, h: Answer, e: Answer) -> Answer
     requires { Spaced e }
-    ensures { result ≡ chain.factor_at answers above (face_number face) l h e }
+    ensures { result ≡ chain.factor_at answers (non_neg height) (face_number face) l h e }
 {
     let distance = Distance::new(e);
-    if above {
+    if 0 <= height {
         distance.factor_above(face, l, h)
     } else {
         distance.factor_below(face, l, h)
@@ -283,7 +270,7 @@ pub fn factor(l: u64, e: u64, face: u8) -> Result<Pair, Outside>
         return Err(Outside::Face);
     };
     let factor = factor_at(
-        true,
+        0,
         face,
         Answer::exact(l),
         Answer::exact(0),

@@ -40,7 +40,7 @@ fn radiant_flux(a: Allowed, diameter: Answer, flame: &PoolFlame) -> Answer
     let l = flame.height / radius;
     let elevation = Answer::exact(e.height.unsigned_abs() as u64 * 1_000_000_000) / radius;
     let distance = Answer::exact(e.distance as u64 * 1_000_000_000) / radius;
-    let factor = factor_at(0 <= e.height, a.face, l, elevation, distance);
+    let factor = factor_at(e.height, a.face, l, elevation, distance);
     transmitted(e.transmissivity, flame.power * factor)
 }
 
