@@ -1,7 +1,7 @@
 -- A quotient rounded down and rounded up: what each covers, and that both grow with the number and fall with the divisor.
 -- By the law of division with rest. Assumes nothing.
 use mathlib.Core.Path.{◌≡◌, refl, sym}
-use Prim.Native.Nat.{ℕ, zero, suc, ◌+◌, ◌*◌, ◌-◌, ◌/◌, ◌%◌, ◌≤◌, ◌<◌, min, zero-le}
+use Prim.Native.Nat.{ℕ, zero, suc, ◌+◌, ◌*◌, ◌-◌, ◌/◌, ◌%◌, ◌^◌, ◌≤◌, ◌<◌, min, zero-le}
 use native.Mathlib.Nat.{le_trans, mul-le-mul_left, le_of_mul-le-mul_right, mod-lt, div-add-mod', div-lt_iff_lt-mul, le-div_iff_mul-le, div-mul-le_self, lt-div-mul-add, div-eq_of_lt-le, suc-mul, div-zero, zero-lt-suc}
 use native.Mathlib.Omega.{arith}
 use Rattle.std.proofs.lemmas.Grind.{div_ceil_times}
@@ -59,3 +59,19 @@ by_quotient n d q p h k = sym (div-eq_of_lt-le {k = q} d {m = n + (d - 1)} (omeg
 -- the library's quotient rounded up
 pub up_of_ceil : (n d : ℕ) → zero < d → n / d + min 1 (n % d) ≡ up n d
 up_of_ceil n d p = let t = div_ceil_times n d p in by_quotient n d (n / d + min 1 (n % d)) p t.0 t.1
+
+-- a quotient of b·U rounded up by c has one word where the upper word of what is divided is below c
+pub word_from : (b c : ℕ) → zero < c → c ≤ (b + (c - 1)) / 2 ^ 64 → 2 ^ 64 ≤ up b c
+unfolding up
+word_from b c z h = (le-div_iff_mul-le {k = c} {x = 2 ^ 64} {y = b + (c - 1)} z).1 (omega arith)
+
+pub word_below : (b c : ℕ) → zero < c → (b + (c - 1)) / 2 ^ 64 < c → up b c < 2 ^ 64
+unfolding up
+word_below b c z h = (div-lt_iff_lt-mul {k = c} {x = b + (c - 1)} {y = 2 ^ 64} z).1 (omega arith)
+
+-- the largest word over n, against what n times a number may be
+pub over_most : (b n : ℕ) → zero < n → (2 ^ 64 - 1) / n < b → 2 ^ 64 ≤ b * n
+over_most b n p h = let k : 2 ^ 64 - 1 < b * n = (div-lt_iff_lt-mul {k = n} {x = 2 ^ 64 - 1} {y = b} p).0 h in omega arith
+
+pub under_most : (b n : ℕ) → zero < n → b ≤ (2 ^ 64 - 1) / n → b * n < 2 ^ 64
+under_most b n p h = let k : b * n ≤ 2 ^ 64 - 1 = (le-div_iff_mul-le {k = n} {x = b} {y = 2 ^ 64 - 1} p).0 h in omega arith

@@ -13,15 +13,13 @@ use Rattle.pairs.specs.Answers.{root_of}
 use Rattle.pairs.proofs.Search.{root_down_scaled, root_up_bound}
 use Rattle.pairs.proofs.Turned.{root_turned}
 
+-- a root is a word
+pub root_up_short : (b : ℕ) → b < 2 ^ 64 → root_up (b * U) < 2 ^ 64
+root_up_short b f = let k : root_up (b * U) ≤ 2 ^ 63 = root_up_bound (b * U) (2 ^ 63) (omega arith) in omega arith
+
 pub root_given : (p : Pair) → p.low ≤ p.high → p.high < 2 ^ 64 → given (rounded.root p) ≡ root_of p
 unfolding rounded.root
-root_given p o f = (root_turned p).is o refl (short p.high f)
-  where
-    square : (b : ℕ) → b < 2 ^ 64 → b * U ≤ 2 ^ 63 * 2 ^ 63
-    square b f = omega arith
-
-    short : (b : ℕ) → b < 2 ^ 64 → root_up (b * U) < 2 ^ 64
-    short b f = let k : root_up (b * U) ≤ 2 ^ 63 = root_up_bound (b * U) (2 ^ 63) (square b f) in omega arith
+root_given p o f = (root_turned p).is o refl (root_up_short p.high f)
 
 pub whole_root : (n : ℕ) → n < 2 ^ 64 → (root_of (ends n n)).pair.low / 1_000_000 ≡ root_down n
 unfolding rounded.root

@@ -1,6 +1,7 @@
 // A pair of trillionths, and why an operation on pairs gives none.
-ghost use Rattle.std.specs.Prelude.{◌≡◌};
+ghost use Rattle.std.specs.Prelude.{◌≡◌, ◌≤◌, ◌<◌, MatchResult};
 ghost use Rattle.pairs.specs.declared.answer.Refusal.{Refusal};
+ghost use Rattle.pairs.specs.declared.answer.Refusal.TheVariants.{Disordered};
 ghost use Rattle.pairs.specs.Figures.{number_of};
 
 // A low and a high end, whole numbers of 10^-12.
@@ -8,6 +9,18 @@ ghost use Rattle.pairs.specs.Figures.{number_of};
 pub struct Pair {
     pub low: u64,
     pub high: u64,
+}
+
+impl Pair {
+    // Refuses a pair whose low end is above its high end.
+    pub(crate) fn admit(self) -> Result<(), Refusal>
+        ensures { MatchResult result (λ _. self.low ≤ self.high) (λ why. (why ≡ Disordered) × (self.high < self.low)) }
+    {
+        if self.high < self.low {
+            return Err(Refusal::Disordered);
+        }
+        Ok(())
+    }
 }
 
 // The refusals of document 01, each with its number.

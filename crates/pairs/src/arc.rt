@@ -8,12 +8,11 @@ use super::series::{ArcTerms, alternating};
 use super::unit::UNIT;
 
 // arc(t), t at most 1.
+#[tactic(auto, using(crate::proofs::Refusals::arc_61, crate::proofs::Refusals::arc_63))]
 pub fn arc(t: Pair) -> Result<Pair, Refusal>
     ensures { figures result ≡ arc_of t }
 {
-    if t.high < t.low {
-        return Err(Refusal::Disordered);
-    }
+    t.admit()?;
     if UNIT < t.high {
         return Err(Refusal::OutOfSpan);
     }

@@ -20,14 +20,11 @@ impl Pair {
 }
 
 // [a-d, b-c], each end raised to 0 where below it.
+#[tactic(auto, unfolding(crate::specs::Answers::difference_of, crate::specs::Answers::fitting, crate::specs::Rounded::difference))]
 pub fn difference(p: Pair, q: Pair) -> Result<Pair, Refusal>
     ensures { figures result ≡ difference_of p q }
 {
-    if p.high < p.low {
-        return Err(Refusal::Disordered);
-    }
-    if q.high < q.low {
-        return Err(Refusal::Disordered);
-    }
+    p.admit()?;
+    q.admit()?;
     Ok(p.less(q))
 }

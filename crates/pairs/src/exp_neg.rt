@@ -31,12 +31,11 @@ impl Terms for ExpTerms {
 }
 
 // exp(-y), y below 256.
+#[tactic(auto, using(crate::proofs::Refusals::exp_61, crate::proofs::Refusals::exp_63, crate::proofs::Refusals::exp_cold))]
 pub fn exp_neg(y: Pair) -> Result<Pair, Refusal>
     ensures { figures result ≡ exp_neg_of y }
 {
-    if y.high < y.low {
-        return Err(Refusal::Disordered);
-    }
+    y.admit()?;
     if 256_000_000_000_000 <= y.high {
         return Err(Refusal::OutOfSpan);
     }

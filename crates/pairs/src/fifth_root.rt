@@ -154,12 +154,11 @@ fn fifth_root_up_of(b: u64) -> u64
 }
 
 // [fifth root of a down, fifth root of b up].
+#[tactic(auto, unfolding(crate::specs::Rounded::fifth_root, crate::specs::Answers::fifth_root_of, crate::specs::Answers::fitting))]
 pub fn fifth_root(p: Pair) -> Result<Pair, Refusal>
     ensures { figures result ≡ fifth_root_of p }
 {
-    if p.high < p.low {
-        return Err(Refusal::Disordered);
-    }
+    p.admit()?;
     Ok(Pair {
         low: fifth_root_down_of(p.low),
         high: fifth_root_up_of(p.high),

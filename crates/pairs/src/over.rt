@@ -23,12 +23,11 @@ impl Pair {
 }
 
 // [a/n down, b/n up].
+#[tactic(auto, unfolding(crate::specs::Answers::over_of, crate::specs::Answers::fitting, crate::specs::Rounded::over), using(crate::proofs::Rounding::up_le))]
 pub fn over(p: Pair, n: u64) -> Result<Pair, Refusal>
     ensures { figures result ≡ over_of p n }
 {
-    if p.high < p.low {
-        return Err(Refusal::Disordered);
-    }
+    p.admit()?;
     if n == 0 {
         return Err(Refusal::ZeroDivisor);
     }

@@ -77,15 +77,12 @@ fn checked_product(a: u64, c: u64, rounding: Rounding) -> Option<u64>
 }
 
 // [ac/U down, bd/U up].
+#[tactic(auto, unfolding(crate::specs::Answers::product_of, crate::specs::Answers::fitting, crate::specs::Rounded::product), using(crate::proofs::product::Parts::low_fits))]
 pub fn product(p: Pair, q: Pair) -> Result<Pair, Refusal>
     ensures { figures result ≡ product_of p q }
 {
-    if p.high < p.low {
-        return Err(Refusal::Disordered);
-    }
-    if q.high < q.low {
-        return Err(Refusal::Disordered);
-    }
+    p.admit()?;
+    q.admit()?;
     let Some(high) = checked_product(p.high, q.high, Rounding::Up) else {
         return Err(Refusal::TooLarge);
     };

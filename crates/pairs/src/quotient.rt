@@ -8,15 +8,12 @@ use super::division::divided;
 use super::unit::in_trillionths;
 
 // [aU/d down, bU/c up].
+#[tactic(auto, unfolding(crate::specs::Answers::quotient_of, crate::specs::Answers::fitting, crate::specs::Rounded::quotient, crate::specs::Rounded::down), using(crate::proofs::Rounding::word_from, crate::proofs::Rounding::word_below, crate::proofs::Rounding::up_by))]
 pub fn quotient(p: Pair, q: Pair) -> Result<Pair, Refusal>
     ensures { figures result ≡ quotient_of p q }
 {
-    if p.high < p.low {
-        return Err(Refusal::Disordered);
-    }
-    if q.high < q.low {
-        return Err(Refusal::Disordered);
-    }
+    p.admit()?;
+    q.admit()?;
     if q.low == 0 {
         return Err(Refusal::ZeroDivisor);
     }

@@ -99,12 +99,11 @@ fn high_start(p: Pair, near: u64) -> u64
 }
 
 // [root of aU down, root of bU up].
+#[tactic(auto, unfolding(crate::specs::Rounded::root, crate::specs::Answers::root_of, crate::specs::Answers::fitting), using(crate::proofs::WholeRoot::root_up_short))]
 pub fn root(p: Pair) -> Result<Pair, Refusal>
     ensures { figures result ≡ root_of p }
 {
-    if p.high < p.low {
-        return Err(Refusal::Disordered);
-    }
+    p.admit()?;
     let near = start(in_trillionths(p.low));
     Ok(Pair {
         low: whole_root(in_trillionths(p.low), near),

@@ -21,15 +21,12 @@ impl Pair {
 }
 
 // [a+c, b+d].
+#[tactic(auto, unfolding(crate::specs::Answers::sum_of, crate::specs::Answers::fitting, crate::specs::Rounded::sum))]
 pub fn sum(p: Pair, q: Pair) -> Result<Pair, Refusal>
     ensures { figures result ≡ sum_of p q }
 {
-    if p.high < p.low {
-        return Err(Refusal::Disordered);
-    }
-    if q.high < q.low {
-        return Err(Refusal::Disordered);
-    }
+    p.admit()?;
+    q.admit()?;
     if u64::MAX - p.high < q.high {
         return Err(Refusal::TooLarge);
     }

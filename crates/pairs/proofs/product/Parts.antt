@@ -2,7 +2,7 @@
 -- Assumes nothing.
 use mathlib.Core.Path.{◌≡◌, refl, sym, ap, ap₂, ◌∙◌}
 use Prim.Native.Nat.{ℕ, ◌+◌, ◌*◌, ◌-◌, ◌/◌, ◌%◌, ◌^◌, ◌≤◌, ◌<◌}
-use native.Mathlib.Nat.{mul-le-mul, div-add-mod', add-zero}
+use native.Mathlib.Nat.{mul-le-mul, lt_of_le_of_lt, div-add-mod', add-zero}
 use native.Mathlib.Omega.{arith}
 use Rattle.pairs.specs.declared.product.Rounding.{Rounding}
 use Rattle.pairs.specs.declared.product.Rounding.TheVariants.{Down, Up}
@@ -62,3 +62,7 @@ pub carried_at_least : (r : Rounding) {m n : ℕ} → m ≤ n → down m U ≤ c
 unfolding down
 carried_at_least Down h = omega arith
 carried_at_least Up h = carried_mono _ _ h
+
+-- a low end fits where the high end does
+pub low_fits : (a b c d : ℕ) → a ≤ b → c ≤ d → up (b * d) U < 2 ^ 64 → down (a * c) U < 2 ^ 64
+low_fits a b c d h k f = lt_of_le_of_lt (carried_mono _ _ (mul-le-mul h k)) f

@@ -8,12 +8,6 @@ use Rattle.pairs.proofs.Turns.{arc_alternating}
 use Rattle.pairs.proofs.Refusals.{arc_61, arc_63}
 use Rattle.pairs.proofs.arc.arc.Goals as goal
 
-pub returns-then-t : goal.returns-then-t
-returns-then-t c = arc_61 _ (omega arith)
-
-pub returns-then-t-gt-UNIT : goal.returns-then-t-gt-UNIT
-returns-then-t-gt-UNIT c = arc_63 _ (omega arith) (omega arith)
-
 pub returns : goal.returns
 returns c =
     ap given (c.alternating.ensures ∙ arc_alternating c.args.t _ _ c.of.ensures.0 c.of.ensures.1) ∙ sym (arc_given c.args.t (omega arith))

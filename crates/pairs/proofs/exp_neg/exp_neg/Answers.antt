@@ -40,15 +40,6 @@ finished : (k : ℕ) (x z : Figures) → k ≡ 8 → squared answers (8 - k) x �
 unfolding squared
 finished k x z e s = rw e at s
 
-pub returns-then-y : goal.returns-then-y
-returns-then-y c = exp_61 _ (omega arith)
-
-pub returns-then-y-ge256000000000000 : goal.returns-then-y-ge256000000000000
-returns-then-y-ge256000000000000 c = exp_63 _ (omega arith) (omega arith)
-
-pub returns-then-y-ge20000000000000 : goal.returns-then-y-ge20000000000000
-returns-then-y-ge20000000000000 c = exp_cold _ (omega arith) (omega arith) (omega arith)
-
 pub invariant_of-alternating : goal.invariant_of-alternating
 invariant_of-alternating c =
     let w = within c.args.y (omega arith) (omega arith) in
@@ -68,7 +59,7 @@ pub returns-in_err-power : goal.returns-in_err-power
 unfolding A.product
 returns-in_err-power c =
     let k : ℕ = 8 - (c.loop.counter + 1) in
-    handed_on (squared answers k) (still_refused k) _ _ _ c.from_residual.ensures.1 c.in_err-power.ensures
+    handed_on (squared answers k) (still_refused k) _ _ _ c.from_residual-in_err-power.ensures.1 c.in_err-power.ensures
     ∙ again _ _ _ _ (omega arith) refl c.loop.invariant.1
     ∙ all_squares c.args.y (omega arith) (omega arith) _ (c.alternating-power.ensures ∙ exp_alternating _ _ c.part.ensures.is)
     ∙ exp_below_20 _ (omega arith) (omega arith) (omega arith)

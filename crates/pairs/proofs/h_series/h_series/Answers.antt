@@ -15,11 +15,5 @@ use Rattle.pairs.proofs.h_series.h_series.Goals as goal
 answered : (t r : Pair) → t.low ≤ t.high → t.high ≤ 333_333_333_334 → r ≡ h_series rounded t → given r ≡ h_series_of t
 answered t r o h e = ap given e ∙ sym (h_series_given t (omega arith) h)
 
-pub returns-then-t : goal.returns-then-t
-returns-then-t c = h_61 _ (omega arith)
-
-pub returns-then-t-gt-A_THIRD : goal.returns-then-t-gt-A_THIRD
-returns-then-t-gt-A_THIRD c = h_63 _ (omega arith) (omega arith)
-
 pub returns : goal.returns
 returns c = answered _ _ (omega arith) (omega arith) c.total_of_terms.ensures
