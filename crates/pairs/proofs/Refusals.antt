@@ -24,6 +24,10 @@ module _ (n : ℕ) where
   unfolding arc A.at_most_one
   arc_refused = arc_terms_refused
 
+  pub half_angle_refused : half_angle answers (refused (suc n)) ≡ refused (suc n)
+  unfolding half_angle A.quotient
+  half_angle_refused = refl
+
   pub atan_refused : atan answers (refused (suc n)) ≡ refused (suc n)
   unfolding atan half_angle A.quotient A.times
   atan_refused = rw arc_refused

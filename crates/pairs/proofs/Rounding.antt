@@ -2,7 +2,7 @@
 -- By the law of division with rest. Assumes nothing.
 use mathlib.Core.Path.{◌≡◌, refl, sym}
 use Prim.Native.Nat.{ℕ, zero, suc, ◌+◌, ◌*◌, ◌-◌, ◌/◌, ◌%◌, ◌^◌, ◌≤◌, ◌<◌, min, zero-le}
-use native.Mathlib.Nat.{le_trans, mul-le-mul_left, le_of_mul-le-mul_right, mod-lt, div-add-mod', div-lt_iff_lt-mul, le-div_iff_mul-le, div-mul-le_self, lt-div-mul-add, div-eq_of_lt-le, suc-mul, div-zero, zero-lt-suc}
+use native.Mathlib.Nat.{le_trans, mul-le-mul_left, mul-le-mul_right, le_of_mul-le-mul_right, mod-lt, div-add-mod', div-lt_iff_lt-mul, le-div_iff_mul-le, div-mul-le_self, lt-div-mul-add, div-eq_of_lt-le, suc-mul, div-zero, zero-lt-suc}
 use native.Mathlib.Omega.{arith}
 use Rattle.std.proofs.lemmas.Grind.{div_ceil_times}
 use Rattle.pairs.specs.Rounded.{down, up}
@@ -69,9 +69,6 @@ pub word_below : (b c : ℕ) → zero < c → (b + (c - 1)) / 2 ^ 64 < c → up 
 unfolding up
 word_below b c z h = (div-lt_iff_lt-mul {k = c} {x = b + (c - 1)} {y = 2 ^ 64} z).1 (omega arith)
 
--- the largest word over n, against what n times a number may be
-pub over_most : (b n : ℕ) → zero < n → (2 ^ 64 - 1) / n < b → 2 ^ 64 ≤ b * n
-over_most b n p h = let k : 2 ^ 64 - 1 < b * n = (div-lt_iff_lt-mul {k = n} {x = 2 ^ 64 - 1} {y = b} p).0 h in omega arith
-
-pub under_most : (b n : ℕ) → zero < n → b ≤ (2 ^ 64 - 1) / n → b * n < 2 ^ 64
-under_most b n p h = let k : b * n ≤ 2 ^ 64 - 1 = (le-div_iff_mul-le {k = n} {x = b} {y = 2 ^ 64 - 1} p).0 h in omega arith
+-- a multiple of a smaller number is no larger
+pub multiple_le : (a b n : ℕ) → a ≤ b → a * n ≤ b * n
+multiple_le a b n h = mul-le-mul_right n h

@@ -14,6 +14,7 @@ use super::times::times;
 use super::unit::ONE;
 
 // t/(1+root(1+t·t)).
+#[tactic(auto, unfolding(crate::specs::Series::half_angle, crate::specs::Answers::product, crate::specs::Answers::sum, crate::specs::Answers::root, crate::specs::Answers::quotient, crate::specs::Answers::constant, crate::specs::Answers::fitting, crate::specs::Rounded::constant))]
 fn half_angle(t: Pair) -> Result<Pair, Refusal>
     ensures { figures result ≡ series.half_angle answers (given t) }
 {
@@ -21,6 +22,7 @@ fn half_angle(t: Pair) -> Result<Pair, Refusal>
     quotient(t, sum(ONE, hypotenuse)?)
 }
 
+#[tactic(auto, unfolding(crate::specs::Series::atan, crate::specs::Answers::times), using(crate::proofs::Refusals::arc_refused, crate::proofs::Refusals::half_angle_refused))]
 pub fn atan(t: Pair) -> Result<Pair, Refusal>
     ensures { figures result ≡ atan_of t }
 {

@@ -25,7 +25,7 @@ impl Terms for ExpTerms {
     #[tactic(auto, unfolding(crate::specs::Private::exp_from), using(crate::proofs::Turns::exp_from_next))]
     fn next(&mut self, n: u64) -> Pair {
         let term = self.term;
-        self.term = term.small_product(self.z).part(n + 1);
+        self.term = term.small_product(self.z).divided_by(n + 1);
         term
     }
 }
@@ -47,7 +47,7 @@ pub fn exp_neg(y: Pair) -> Result<Pair, Refusal>
     }
     let mut power = alternating(ExpTerms {
         term: ONE,
-        z: y.part(256),
+        z: y.divided_by(256),
     });
     for _ in 0..8u64 {
         power = product(power, power)?;

@@ -24,7 +24,7 @@ fn total_of_terms(t: Pair) -> Pair
     }
     Pair {
         low: sum.low,
-        high: sum.high + terms.power().high,
+        high: sum.high + terms.power.high,
     }
 }
 

@@ -7,9 +7,9 @@ ghost use Rattle.pairs.specs.Answers.{over_of};
 use super::answer::{Pair, Refusal};
 
 impl Pair {
-    // The part, of a number that is not 0.
+    // The pair over n, which is not 0.
     #[tactic(auto, unfolding(crate::specs::Rounded::over, crate::specs::Rounded::down), using(crate::proofs::Rounding::up_of_ceil, crate::proofs::Turns::over_small))]
-    pub(crate) fn part(self, n: u64) -> Pair
+    pub(crate) fn divided_by(self, n: u64) -> Pair
         requires { 0 < n }
         ensures is { result ≡ rounded.over self n }
         ensures no_higher { result.high ≤ self.high }
@@ -31,5 +31,5 @@ pub fn over(p: Pair, n: u64) -> Result<Pair, Refusal>
     if n == 0 {
         return Err(Refusal::ZeroDivisor);
     }
-    Ok(p.part(n))
+    Ok(p.divided_by(n))
 }

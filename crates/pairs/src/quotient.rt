@@ -8,7 +8,7 @@ use super::division::divided;
 use super::unit::in_trillionths;
 
 // [aU/d down, bU/c up].
-#[tactic(auto, unfolding(crate::specs::Answers::quotient_of, crate::specs::Answers::fitting, crate::specs::Rounded::quotient, crate::specs::Rounded::down), using(crate::proofs::Rounding::word_from, crate::proofs::Rounding::word_below, crate::proofs::Rounding::up_by))]
+#[tactic(auto, unfolding(crate::specs::Answers::quotient_of, crate::specs::Answers::fitting, crate::specs::Rounded::quotient, crate::specs::Rounded::down, crate::specs::Rounded::up), using(crate::proofs::Rounding::word_from, crate::proofs::Rounding::word_below))]
 pub fn quotient(p: Pair, q: Pair) -> Result<Pair, Refusal>
     ensures { figures result ≡ quotient_of p q }
 {

@@ -42,10 +42,10 @@ pub(crate) fn alternating<T: Terms>(mut terms: T) -> Pair
     plus.less(other)
 }
 
-// The terms of arc and of H: term n is power n of t over 2n+1, and the next power is the last times t·t.
+// The terms of arc and of H: term n is the power that it comes to over 2n+1, and the next power is the last times t·t.
 #[derive(Clone, Copy)]
 pub(crate) struct ArcTerms {
-    power: Pair,
+    pub(crate) power: Pair,
     square: Pair,
     ghost power_small: { (power.low ≤ power.high) × (power.high ≤ U) },
     ghost square_small: { (square.low ≤ square.high) × (square.high ≤ U) },
@@ -62,13 +62,6 @@ impl ArcTerms {
         }
     }
 
-    // The power that the next term is made of.
-    pub(crate) fn power(&self) -> Pair
-        ensures { result ≡ self.now.power }
-    {
-        self.power
-    }
-
     // Term n.
     pub(crate) fn term(&mut self, n: u64) -> Pair
         requires { n ≤ 16 }
@@ -77,7 +70,7 @@ impl ArcTerms {
         ensures power { self.new.power ≡ rounded.product self.old.power self.old.square }
         ensures square { self.new.square ≡ self.old.square }
     {
-        let term = self.power.part(2 * n + 1);
+        let term = self.power.divided_by(2 * n + 1);
         self.power = self.power.small_product(self.square);
         term
     }

@@ -27,8 +27,11 @@ pub fn sum(p: Pair, q: Pair) -> Result<Pair, Refusal>
 {
     p.admit()?;
     q.admit()?;
-    if u64::MAX - p.high < q.high {
+    let Some(high) = p.high.checked_add(q.high) else {
         return Err(Refusal::TooLarge);
-    }
-    Ok(p.plus(q))
+    };
+    Ok(Pair {
+        low: p.low + q.low,
+        high,
+    })
 }

@@ -6,19 +6,16 @@ ghost use Rattle.pairs.specs.Answers.{times_of};
 use super::answer::{Pair, Refusal};
 
 // [a·n, b·n], exact.
-#[tactic(auto, unfolding(crate::specs::Answers::times_of, crate::specs::Answers::fitting, crate::specs::Rounded::times), using(crate::proofs::Rounding::over_most, crate::proofs::Rounding::under_most))]
+#[tactic(auto, unfolding(crate::specs::Answers::times_of, crate::specs::Answers::fitting, crate::specs::Rounded::times), using(crate::proofs::Rounding::multiple_le))]
 pub fn times(p: Pair, n: u64) -> Result<Pair, Refusal>
     ensures { figures result ≡ times_of p n }
 {
     p.admit()?;
-    if n == 0 {
-        return Ok(Pair { low: 0, high: 0 });
-    }
-    if u64::MAX / n < p.high {
+    let Some(high) = p.high.checked_mul(n) else {
         return Err(Refusal::TooLarge);
-    }
+    };
     Ok(Pair {
         low: p.low * n,
-        high: p.high * n,
+        high,
     })
 }

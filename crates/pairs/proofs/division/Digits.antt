@@ -3,12 +3,9 @@
 use mathlib.Core.Path.{◌≡◌, sym, ap, ◌∙◌}
 use Prim.Native.Nat.{ℕ, zero, suc, ◌+◌, ◌*◌, ◌-◌, ◌/◌, ◌%◌, ◌^◌, ◌≤◌, ◌<◌}
 use native.Mathlib.Nat.{mul-le-mul, mul-le-mul_right, le_of_mul-le-mul_right, div-eq_of_lt-le, div-eq_of_eq-mul_left, div-lt_iff_lt-mul, sub-add_cancel, add-mul}
-use native.Mathlib.Decide.{dec_lt}
 use native.Mathlib.Omega.{arith}
-use lib.Dec.{ltb}
 use lib.Pow.{pow-add, shl_lt}
 use lib.Count.{count_leading_zeros, leading_top}
-use borrow.Author.Tests.{lt-ltb, le-ltb}
 
 abbrev pub B : ℕ
 B = 2 ^ 32

@@ -1,7 +1,7 @@
 -- The rounded product by parts: by base 10^6 for numbers of at most 1, and by units and fractions for any.
 -- Assumes nothing.
 use mathlib.Core.Path.{◌≡◌, refl, sym, ap, ap₂, ◌∙◌}
-use Prim.Native.Nat.{ℕ, ◌+◌, ◌*◌, ◌-◌, ◌/◌, ◌%◌, ◌^◌, ◌≤◌, ◌<◌}
+use Prim.Native.Nat.{ℕ, ◌+◌, ◌*◌, ◌/◌, ◌%◌, ◌^◌, ◌≤◌, ◌<◌}
 use native.Mathlib.Nat.{mul-le-mul, lt_of_le_of_lt, div-add-mod', add-zero}
 use native.Mathlib.Omega.{arith}
 use Rattle.pairs.specs.declared.product.Rounding.{Rounding}

@@ -1,9 +1,9 @@
 -- The even scaling of a radicand by its leading zero bits, and the two steps from its starting number.
 -- Assumes nothing.
 use mathlib.Core.Path.{◌≡◌, sym, ap, ◌∙◌}
-use Prim.Native.Nat.{ℕ, zero, ◌+◌, ◌*◌, ◌-◌, ◌/◌, ◌%◌, ◌^◌, ◌≤◌, ◌<◌}
-use native.Mathlib.Nat.{le_trans, mul-le-mul, mul-le-mul_left, mul-le-mul_right, mul_comm, mul_assoc, add_comm, le-div_iff_mul-le, div-lt_iff_lt-mul, mod-eq_of_lt, div-div-eq-div-mul, add-mul-div_right, mul-div-mul_right}
-use native.Mathlib.Decide.{dec_lt, dec_le}
+use Prim.Native.Nat.{ℕ, zero, ◌+◌, ◌*◌, ◌/◌, ◌%◌, ◌^◌, ◌≤◌, ◌<◌}
+use native.Mathlib.Nat.{mul-le-mul_left, mul_assoc, div-lt_iff_lt-mul}
+use native.Mathlib.Decide.{dec_le}
 use native.Mathlib.Omega.{arith}
 use lib.Pow.{pow_pos, pow_mono, pow-add}
 use lib.Count.{count_leading_zeros, leading_top}

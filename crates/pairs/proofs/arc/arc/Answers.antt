@@ -5,7 +5,6 @@ use native.Mathlib.Omega.{arith}
 use Rattle.pairs.specs.Figures.{given}
 use Rattle.pairs.proofs.Terms.{arc_given}
 use Rattle.pairs.proofs.Turns.{arc_alternating}
-use Rattle.pairs.proofs.Refusals.{arc_61, arc_63}
 use Rattle.pairs.proofs.arc.arc.Goals as goal
 
 pub returns : goal.returns

@@ -1,7 +1,7 @@
 -- `exp_neg` meets its contract: 61, then 63, then the cold pair, then the series, of which no step is refused, and eight squares.
 -- The loop holds what is left of the squares. Assumes nothing.
-use mathlib.Core.Path.{◌≡◌, refl, sym, ap, subst, ◌∙◌}
-use Prim.Native.Nat.{ℕ, zero, suc, ◌+◌, ◌*◌, ◌-◌, ◌/◌, ◌^◌, ◌≤◌, ◌<◌}
+use mathlib.Core.Path.{◌≡◌, refl, sym, ap, ◌∙◌}
+use Prim.Native.Nat.{ℕ, zero, suc, ◌+◌, ◌*◌, ◌-◌, ◌≤◌, ◌<◌}
 use native.Mathlib.Omega.{arith}
 use Rattle.pairs.specs.declared.answer.Pair.{Pair}
 use Rattle.pairs.specs.Rounded as R
@@ -14,7 +14,7 @@ use Rattle.pairs.proofs.Lifted.{handed_on}
 use Rattle.pairs.proofs.Turned.{over_turned}
 use Rattle.pairs.proofs.Terms.{Within, exp_given}
 use Rattle.pairs.proofs.Turns.{exp_alternating}
-use Rattle.pairs.proofs.Refusals.{exp_61, exp_63, exp_cold, exp_below_20}
+use Rattle.pairs.proofs.Refusals.{exp_below_20}
 use Rattle.pairs.proofs.exp_neg.exp_neg.Goals as goal
 
 -- y over 256
@@ -43,7 +43,7 @@ finished k x z e s = rw e at s
 pub invariant_of-alternating : goal.invariant_of-alternating
 invariant_of-alternating c =
     let w = within c.args.y (omega arith) (omega arith) in
-    record { term_small = omega arith; z_small = rw c.part.ensures.is (w.ordered, w.high) }
+    record { term_small = omega arith; z_small = rw c.divided_by.ensures.is (w.ordered, w.high) }
 
 pub loop-preserved : goal.loop-preserved
 unfolding A.product
@@ -61,10 +61,10 @@ returns-in_err-power c =
     let k : ℕ = 8 - (c.loop.counter + 1) in
     handed_on (squared answers k) (still_refused k) _ _ _ c.from_residual-in_err-power.ensures.1 c.in_err-power.ensures
     ∙ again _ _ _ _ (omega arith) refl c.loop.invariant.1
-    ∙ all_squares c.args.y (omega arith) (omega arith) _ (c.alternating-power.ensures ∙ exp_alternating _ _ c.part.ensures.is)
+    ∙ all_squares c.args.y (omega arith) (omega arith) _ (c.alternating-power.ensures ∙ exp_alternating _ _ c.divided_by.ensures.is)
     ∙ exp_below_20 _ (omega arith) (omega arith) (omega arith)
 
 pub returns : goal.returns
 returns c = finished _ _ _ (omega arith) c.loop.invariant.1
-    ∙ all_squares c.args.y (omega arith) (omega arith) _ (c.alternating-power.ensures ∙ exp_alternating _ _ c.part.ensures.is)
+    ∙ all_squares c.args.y (omega arith) (omega arith) _ (c.alternating-power.ensures ∙ exp_alternating _ _ c.divided_by.ensures.is)
     ∙ exp_below_20 _ (omega arith) (omega arith) (omega arith)

@@ -9,7 +9,6 @@ use Rattle.pairs.specs.Figures.{given}
 use Rattle.pairs.specs.Answers.{h_series_of}
 use Rattle.pairs.specs.Series.{h_series}
 use Rattle.pairs.proofs.Terms.{h_series_given}
-use Rattle.pairs.proofs.Refusals.{h_61, h_63}
 use Rattle.pairs.proofs.h_series.h_series.Goals as goal
 
 answered : (t r : Pair) → t.low ≤ t.high → t.high ≤ 333_333_333_334 → r ≡ h_series rounded t → given r ≡ h_series_of t

@@ -51,7 +51,7 @@ pub overflow_add-result : goal.overflow_add-result
 overflow_add-result c =
     let w : Within U c.args.t = omega arith in
     let small : Within U c.loop-n.terms.power = rw c.loop-n.invariant.power_is (power_within _ w c.loop-n.n) in
-    record { fits = rw c.power.ensures (omega (arith, c.loop-n.invariant.sum_small)) }
+    omega (arith, c.loop-n.invariant.sum_small)
 
 pub returns : goal.returns
-returns c = rw c.power.ensures (all c.loop-n.invariant (omega arith))
+returns c = all c.loop-n.invariant (omega arith)

@@ -1,6 +1,6 @@
 -- `alternating` meets its contract: the loop holds the sums of n terms, which change places at each term, and the terms to come are the rest.
 -- Every term is at most 1 and every sum at most n, so nothing wraps. Assumes nothing.
-use mathlib.Core.Path.{◌≡◌, refl, sym, ap, ◌∙◌}
+use mathlib.Core.Path.{◌≡◌, sym, ap, ◌∙◌}
 use Prim.Native.Nat.{ℕ, ◌+◌}
 use native.Mathlib.Nat.{zero-add}
 use native.Mathlib.Omega.{arith}

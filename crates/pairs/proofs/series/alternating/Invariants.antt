@@ -1,6 +1,6 @@
 -- `alternating` meets its contract: the loop holds the sums of n terms, which change places at each term, and the terms to come are the rest.
 use mathlib.Core.Path.{◌≡◌}
-use Prim.Native.Nat.{ℕ, ◌+◌, ◌-◌}
+use Prim.Native.Nat.{ℕ, ◌+◌}
 use Rattle.pairs.proofs.Turns.{Alternated}
 use Rattle.pairs.proofs.series.alternating.Given as goal
 
