@@ -52,17 +52,6 @@ all_numbers r t h =
       beyond = lt_of_lt_of_le h (limit_past r);
     }
 
--- ---- a bracket narrowed at a number inside it
-module _ {r : Rounding} {t l u : ℕ} (b : Brackets r t l u) (n : ℕ) (h : l < n) (k : n < u) where
-  pub upper_moved : t < fourth_power r n * n → Brackets r t l n
-  upper_moved p = record { ordered = h; limit = omega (arith, b.limit); within = b.within; beyond = p }
-
-  pub lower_moved : fourth_power r n * n ≤ t → Brackets r t n u
-  lower_moved p = record { ordered = k; limit = b.limit; within = p; beyond = b.beyond }
-
-pub neighbours : {r : Rounding} {t l u : ℕ} → Brackets r t l u → u - l ≤ 1 → Brackets r t (u - 1) u
-neighbours {r} {t} {l} {u} b h = let p : u - 1 ≡ l = omega (arith, b.ordered) in rw p b
-
 -- ---- the fifth power is the last division of the fourth times s
 up_power : (s : ℕ) → fifth_power_up s ≡ up (fourth_power Up s * s) U
 unfolding fifth_power_up fourth_power

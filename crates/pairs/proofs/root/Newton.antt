@@ -53,11 +53,6 @@ stepped n s r f p e =
     let below : n < (r + 1) * (r + 1) = rw e.0 (above_root n s p) in
     record { root_below = below; quotient = fits n r f below; short = e.1 }
 
-pub quotient_le : (n s : ℕ) → zero < s → n ≤ s * 2 ^ 63 → n / s ≤ 2 ^ 63
-quotient_le n s p h =
-    let k : n / s < 2 ^ 63 + 1 = (div-lt_iff_lt-mul {k = s} {x = n} {y = 2 ^ 63 + 1} p).1 (omega arith) in
-    omega arith
-
 -- what has a square above another number is not 0
 pub above_0 : (n s : ℕ) → n < s * s → zero < s
 above_0 n zero h = absurd (omega arith)
