@@ -134,6 +134,7 @@ fn first_above(x: u64, bound: u128, rounding: Rounding) -> u64
 }
 
 // The greatest s whose fifth power, each product rounded up, is at most a.
+#[tactic(auto, using(crate::proofs::fifth_root::Powers::named_down, crate::proofs::fifth_root::Powers::down_of_zero))]
 fn fifth_root_down_of(a: u64) -> u64
     ensures { result ≡ fifth_root_down a }
 {
@@ -144,6 +145,7 @@ fn fifth_root_down_of(a: u64) -> u64
 }
 
 // The least s whose fifth power, each product rounded down, is at least b.
+#[tactic(auto, using(crate::proofs::fifth_root::Powers::up_of_zero))]
 fn fifth_root_up_of(b: u64) -> u64
     ensures { result ≡ fifth_root_up b }
 {

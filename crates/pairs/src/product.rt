@@ -26,6 +26,7 @@ impl Rounding {
 }
 
 // a·c/U, for numbers of at most 1.
+#[tactic(auto, using(crate::proofs::product::Parts::fraction_is))]
 pub(crate) fn fraction(a: u64, c: u64, rounding: Rounding) -> u64
     requires { (a ≤ U) × (c ≤ U) }
     ensures { result ≡ carried rounding (a * c) }
@@ -50,6 +51,7 @@ impl Pair {
 }
 
 // a·c/U, where it fits.
+#[tactic(auto, using(crate::proofs::product::Parts::parts))]
 pub(crate) fn rounded_product(a: u64, c: u64, rounding: Rounding) -> u64
     requires { carried rounding (a * c) < 2 ^ 64 }
     ensures { result ≡ carried rounding (a * c) }
@@ -62,6 +64,7 @@ pub(crate) fn rounded_product(a: u64, c: u64, rounding: Rounding) -> u64
 }
 
 // a·c/U, or none where it does not fit.
+#[tactic(auto, using(crate::proofs::product::Parts::parts))]
 fn checked_product(a: u64, c: u64, rounding: Rounding) -> Option<u64>
     ensures { MatchOption result (2 ^ 64 ≤ carried rounding (a * c)) (λ n. n ≡ carried rounding (a * c)) }
 {

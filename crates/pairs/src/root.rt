@@ -26,6 +26,7 @@ fn starting_number(i: u64) -> u64
 }
 
 // Near the root of a word whose two upper bits are not both 0: the starting number of its ten upper bits, and two of Newton's steps.
+#[tactic(auto, using(crate::proofs::root::Scaling::steps))]
 fn near_root(word: u64) -> u64
     requires { 2 ^ 62 ≤ word }
     ensures { (0 < result) × (result < 2 ^ 36) }
@@ -45,6 +46,7 @@ fn scaled(n: u128) -> u64
 }
 
 // Near the root of n.
+#[tactic(auto, using(crate::proofs::root::Scaling::start_lt))]
 fn start(n: u128) -> u64
     requires { n < 2 ^ 104 }
     ensures { result < 2 ^ 63 }
@@ -64,6 +66,7 @@ fn refined(n: u128, s: u64) -> u64
 }
 
 // The greatest s with s·s at most n, from any number to start with.
+#[tactic(auto, using(crate::proofs::root::Newton::stepped, crate::proofs::root::Newton::reached, crate::proofs::root::Newton::above_0))]
 fn whole_root(n: u128, near: u64) -> u64
     requires { (n < 2 ^ 104) × (near < 2 ^ 63) }
     ensures { result ≡ root_down n }

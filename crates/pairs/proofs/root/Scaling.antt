@@ -59,7 +59,7 @@ evened n z h =
     parted = omega arith
 
 -- a number of at most 104 bits has 24 leading zeros or more
-pub zeros_ge : (d : ℕ) → zero < d → d < 2 ^ 104 → 24 ≤ count_leading_zeros 128 d
+zeros_ge : (d : ℕ) → zero < d → d < 2 ^ 104 → 24 ≤ count_leading_zeros 128 d
 zeros_ge d p f =
     let top = leading_top 128 d p (omega arith) in
     elim (dec_le 104 top.0) [
@@ -70,8 +70,13 @@ zeros_ge d p f =
     contrary : (d x : ℕ) → d < 2 ^ 104 → 2 ^ 104 ≤ x → x ≤ d → ⊥
     contrary d x a b e = omega arith
 
--- the start, shifted to its place, stays below 2^63
-pub shifted_lt : (x z : ℕ) → x < 2 ^ 36 → 24 ≤ z → x * 2 ^ 32 / 2 ^ (z / 2) < 2 ^ 63
-shifted_lt x z h k =
+-- the start of a root of at most 52 bits, shifted to its place, stays below 2^63
+shifted : (x z : ℕ) → x < 2 ^ 36 → 24 ≤ z → x * 2 ^ 32 / 2 ^ (z / 2) < 2 ^ 63
+shifted x z h k =
     let p : 2 ^ 12 ≤ 2 ^ (z / 2) = pow_mono {i = 12} {j = z / 2} (omega arith) in
     quotient_lt (x * 2 ^ 32) (2 ^ (z / 2)) (2 ^ 63) (pow_pos (z / 2)) (omega arith)
+
+pub start_lt : (n x y : ℕ) → zero < n → n < 2 ^ 104 → x < 2 ^ 36 → y ≡ x → y * 2 ^ 32 % 2 ^ 128 / 2 ^ (count_leading_zeros 128 n / 2) < 2 ^ 63
+start_lt n x y p f h e =
+    let whole : y * 2 ^ 32 % 2 ^ 128 ≡ x * 2 ^ 32 = omega arith in
+    rw whole (shifted x (count_leading_zeros 128 n) h (zeros_ge n p f))

@@ -9,15 +9,3 @@ overflow_mul-first c = let s = steps _ _ c.requires c.ranges.word.fits c.startin
 
 pub nonzero_div-second : goal.nonzero_div-second
 nonzero_div-second c = let s = steps _ _ c.requires c.ranges.word.fits c.starting_number-first.ensures in omega arith
-
-pub overflow_add-second : goal.overflow_add-second
-overflow_add-second c = let s = steps _ _ c.requires c.ranges.word.fits c.starting_number-first.ensures in omega arith
-
-pub nonzero_div-result : goal.nonzero_div-result
-nonzero_div-result c = let s = steps _ _ c.requires c.ranges.word.fits c.starting_number-first.ensures in omega arith
-
-pub overflow_add-result : goal.overflow_add-result
-overflow_add-result c = let s = steps _ _ c.requires c.ranges.word.fits c.starting_number-first.ensures in omega arith
-
-pub returns : goal.returns
-returns c = let s = steps _ _ c.requires c.ranges.word.fits c.starting_number-first.ensures in omega arith
