@@ -1,6 +1,6 @@
 // A number of two words over a word, by digits of 32 bits. The processor's own division of two words is slower: with it a quotient of pairs
 // takes 61 ns and not 56.
-ghost use Rattle.std.specs.Prelude.{◌≡◌, ◌+◌, ◌*◌, ◌/◌, ◌^◌, ◌≤◌, ◌<◌};
+ghost use Rattle.std.specs.Prelude.{◌≡◌, ◌+◌, ◌*◌, ◌/◌, ◌^◌, ◌≤◌, ◌<◌, MatchOption};
 
 // One digit of a quotient and what it leaves.
 #[derive(Clone, Copy)]
@@ -84,4 +84,14 @@ pub(crate) fn divided(n: u128, d: u64) -> u64
     );
     let second = next_digit(first.rest, (n % 0x1_0000_0000) as u64, d);
     first.quotient * 0x1_0000_0000 + second.quotient
+}
+
+// n / d rounded down, or none where it has more than one word or d is 0.
+pub(crate) fn checked_divided(n: u128, d: u64) -> Option<u64>
+    ensures { MatchOption result (d ≤ n / 2 ^ 64) (λ q. q ≡ n / d) }
+{
+    if u128::from(d) <= n >> 64 {
+        return None;
+    }
+    Some(divided(n, d))
 }

@@ -7,7 +7,7 @@ ghost use Rattle.pairs.specs.Answers.{fifth_root_of};
 ghost use Rattle.pairs.specs.Private.{fourth_power, Brackets};
 
 use super::answer::{Pair, Refusal};
-use super::division::divided;
+use super::division::checked_divided;
 use super::product::{Rounding, rounded_product};
 use super::unit::in_trillionths;
 
@@ -43,11 +43,9 @@ fn nearer(s: u64, x: u64) -> u64
     ensures { result ≤ 28_391_212_775_636 }
 {
     let power = fourth_power(s, Rounding::Down);
-    let n = in_trillionths(x);
-    if u128::from(power) <= n >> 64 {
+    let Some(part) = checked_divided(in_trillionths(x), power) else {
         return s;
-    }
-    let part = divided(n, power);
+    };
     if 4 * LIMIT < part {
         return s;
     }

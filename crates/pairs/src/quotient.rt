@@ -4,7 +4,7 @@ ghost use Rattle.pairs.specs.Figures.{figures};
 ghost use Rattle.pairs.specs.Answers.{quotient_of};
 
 use super::answer::{Pair, Refusal};
-use super::division::divided;
+use super::division::{checked_divided, divided};
 use super::unit::in_trillionths;
 
 // [aU/d down, bU/c up].
@@ -19,11 +19,11 @@ pub fn quotient(p: Pair, q: Pair) -> Result<Pair, Refusal>
     }
     // rounded down by c, this is bU/c rounded up
     let raised = in_trillionths(p.high) + u128::from(q.low - 1);
-    if u128::from(q.low) <= raised >> 64 {
+    let Some(high) = checked_divided(raised, q.low) else {
         return Err(Refusal::TooLarge);
-    }
+    };
     Ok(Pair {
         low: divided(in_trillionths(p.low), q.high),
-        high: divided(raised, q.low),
+        high,
     })
 }
