@@ -1,7 +1,7 @@
 // What is asked of the chain, and what it answers.
 ghost use Rattle.std.specs.Prelude.{◌≡◌};
 
-// The whole numbers of one enquiry, in document 01's units.
+// The whole numbers of one enquiry, in document 01's units. Method and face are numbers, since any may be asked: 13 and 15 refuse the rest.
 #[derive(Clone, Copy)]
 pub struct Enquiry {
     // burning rate m of a large pool, g/(m²·s)

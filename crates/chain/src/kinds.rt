@@ -1,4 +1,4 @@
-// The methods and faces, by their numbers.
+// The methods and faces, by their numbers. The two conversions have cases of their own, and no impl may be written by a macro.
 ghost use Rattle.std.specs.Prelude.{◌≡◌, true, MatchResult};
 ghost use Rattle.chain.specs.Flux.{outside};
 ghost use Rattle.chain.specs.Private.{method_number, face_number};

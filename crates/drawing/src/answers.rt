@@ -16,7 +16,7 @@ pub(crate) const ANSWER_SIZE: usize = 10;
 // Room for the answers of the most targets, 512.
 pub(crate) const ROOM: usize = 5120;
 
-// The number in four bytes, most significant first.
+// The number in four bytes, most significant first. `sheet` has one too, its own: a library's public functions are those of the papers.
 fn four(s: &[u8], at: usize) -> u32
     requires { at + 4 ≤ length s.now }
     ensures { result ≡ four s.now at }

@@ -30,7 +30,8 @@ fn put_groups(groups: &[Group], out: &mut [f64])
     }
 }
 
-// Writes three floats per target of the sheet and returns 0; or writes nothing and returns the number of the refusal.
+// Writes three floats per target of the sheet and returns 0; or writes nothing and returns the number of the refusal, which the export
+// hands on.
 pub fn fill_groups(sheet: &[u8], out: &mut [f64]) -> u8
     ensures { (result ≡ (fill_groups_of sheet.now out.old).number) × (out.new ≡ (fill_groups_of sheet.now out.old).elements) }
 {

@@ -10,6 +10,7 @@ pub fn read_into<R: Read>(input: &mut R, buffer: &mut [u8]) -> io::Result<usize>
     ensures bytes { IfOk result (λ n. Consumes (R.remaining input.old) (R.remaining input.new) (take n buffer.new)) }
     ensures end { IfOk result (λ n. n < length buffer.new → IsAtEnd (R.remaining input.new)) }
 {
+    // what is filled goes on by what a read gave, not by one
     let mut filled = 0;
     while filled < buffer.len() {
         let n = input.read(&mut buffer[filled..])?;

@@ -71,7 +71,7 @@ fn try_fill(sheet: &[u8], out: &mut [u8]) -> Result<(), NotFilled>
     Ok(())
 }
 
-// Writes ten bytes per target of the sheet and returns 0; or writes nothing and returns the number of the refusal.
+// Writes ten bytes per target of the sheet and returns 0; or writes nothing and returns the number of the refusal, which the export hands on.
 pub fn fill(sheet: &[u8], out: &mut [u8]) -> u8
     ensures { (result ≡ (fill_of sheet.now out.old).number) × (out.new ≡ (fill_of sheet.now out.old).elements) }
 {

@@ -68,7 +68,8 @@ fn put_report(text: &mut Text, sheet: &[u8])
     }
 }
 
-// Writes the text into a buffer of at least ROOM bytes and returns its length; in a shorter one writes nothing and returns 0.
+// Writes the text into a buffer of at least ROOM bytes and returns its length; in a shorter one writes nothing and returns 0, which is the
+// length of no text: a report cannot fail.
 pub fn report(sheet: &[u8], out: &mut [u8]) -> usize
     ensures { (result ≡ (report_of sheet.now out.old).count) × (out.new ≡ (report_of sheet.now out.old).bytes) × (result ≤ length out.old) }
 {

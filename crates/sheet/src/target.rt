@@ -47,7 +47,8 @@ impl Accepted<'_> {
     }
 }
 
-// What is shown for a target: the state is 0 or the refusal number, and a refused target has zeros.
+// What is shown for a target: the state is 0 or the refusal number, and a refused target has zeros. The fill and the report both write these
+// four numbers.
 #[derive(Clone, Copy)]
 pub(crate) struct Entry {
     pub(crate) state: u8,
