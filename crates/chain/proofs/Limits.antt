@@ -6,9 +6,10 @@ use mathlib.Core.Bool.{Bool, true, false, ◌&&◌, not}
 use Prim.Native.Nat.{ℕ, ◌≤◌, ◌<◌}
 use native.Mathlib.Nat.{le_trans}
 use native.Mathlib.Omega.{arith}
-use lib.Dec.{T, leb, eqb, leb→le, lit≤, lit<}
+use lib.Dec.{T, leb, ltb, eqb, leb→le, lit≤, lit<}
 use lib.Ieee.Fits.{and_r}
-use borrow.Author.Tests.{eq-eqb, le-leb}
+use borrow.Author.Tests.{eq-eqb, le-leb, lt-leb, lt-ltb, le-ltb}
+use native.Mathlib.Decide.{dec_le}
 use lib.IntN.{ℤ, pos, negsuc, nat_abs}
 use Rattle.chain.specs.declared.enquiry.Enquiry.{Enquiry}
 use Rattle.chain.specs.declared.enquiry.Turned.{Turned}
@@ -35,6 +36,17 @@ between least most n e =
 -- A number between its limits is not outside them.
 pub inside : (least most n : ℕ) → least ≤ n → n ≤ most → outside least most n ≡ false
 inside least most n l h = rw (le-leb least n l, le-leb n most h)
+
+-- The test in two: below the least, or by the most.
+pub outside_below : (least most n : ℕ) → n < least → true ≡ outside least most n
+outside_below least most n h = rw (lt-leb least n h)
+
+pub outside_by_most : (least most n : ℕ) → least ≤ n → ltb most n ≡ outside least most n
+outside_by_most least most n h =
+    elim (dec_le n most) [
+      | yes k ↦ rw (le-leb least n h, le-leb n most k) (le-ltb most n k)
+      | no k ↦ let l : most < n = omega arith in rw (le-leb least n h, lt-leb n most l) (lt-ltb most n l)
+    ]
 
 three : (a b c : Bool) → not (not a && not b && not c) ≡ false → (a ≡ false) × (b ≡ false) × (c ≡ false)
 three false false false e = (refl, refl, refl)

@@ -59,15 +59,11 @@ impl TryFrom<Enquiry> for Allowed {
         if outside(e.area as u64, 100, 190_000) {
             return Err(Turned::Area);
         }
-        let Ok(method) = Method::try_from(e.method) else {
-            return Err(Turned::Method);
-        };
+        let method = Method::try_from(e.method).or(Err(Turned::Method))?;
         if outside(e.distance as u64, 1_000, 200_000) {
             return Err(Turned::Distance);
         }
-        let Ok(face) = Face::try_from(e.face) else {
-            return Err(Turned::Face);
-        };
+        let face = Face::try_from(e.face).or(Err(Turned::Face))?;
         if height_outside(e.height) {
             return Err(Turned::Height);
         }

@@ -14,6 +14,13 @@ use super::enquiry::Outside;
 use super::kinds::Face;
 use pairs::answer::Pair;
 
+// Heights from the base, in radii: l of the flame's top, and h, the magnitude of the target's.
+#[derive(Clone, Copy)]
+pub(crate) struct Heights {
+    pub(crate) l: Answer,
+    pub(crate) h: Answer,
+}
+
 // What every face needs of e: g·g, e·e, e·g and r = root(e/g). The distance is as wide as the diameter allows.
 #[derive(Clone, Copy)]
 struct Distance {
@@ -162,11 +169,11 @@ impl Upright {
 
     // f(h) + f(l-h) - f(h-l), from f(l-h).
     #[tactic(auto, unfolding(crate::specs::Chain::vertical_above))]
-    fn vertical_above(&self, between: Answer, l: Answer, h: Answer) -> Answer
-        requires { between ≡ chain.vertical answers (answers.difference l h) self.now.distance.e }
-        ensures { result ≡ chain.vertical_above answers l h self.now.distance.e }
+    fn vertical_above(&self, between: Answer, heights: &Heights) -> Answer
+        requires { between ≡ chain.vertical answers (answers.difference heights.now.l heights.now.h) self.now.distance.e }
+        ensures { result ≡ chain.vertical_above answers heights.now.l heights.now.h self.now.distance.e }
     {
-        self.vertical_at(h) + between - self.vertical_at(h - l)
+        self.vertical_at(heights.h) + between - self.vertical_at(heights.h - heights.l)
     }
 }
 
@@ -193,21 +200,21 @@ fn most_exposed(upright: Answer, level: Answer) -> Answer
 impl Distance {
     // A target from the base up.
     #[tactic(auto, unfolding(crate::specs::Chain::factor_at, crate::specs::Chain::by_face, crate::specs::Chain::horizontal_above))]
-    fn factor_above(&self, face: Face, l: Answer, h: Answer) -> Answer
-        ensures { result ≡ chain.factor_at answers true (face_number face) l h self.now.e }
+    fn factor_above(&self, face: Face, heights: &Heights) -> Answer
+        ensures { result ≡ chain.factor_at answers true (face_number face) heights.now.l heights.now.h self.now.e }
     {
-        let between = l - h;
+        let between = heights.l - heights.h;
         match face {
             Face::Vertical => {
                 let up = self.upright();
-                up.vertical_above(up.vertical_at(between), l, h)
+                up.vertical_above(up.vertical_at(between), heights)
             }
             Face::Horizontal => self.level().horizontal(&self.seen_at(between)),
             Face::Tilted => {
                 let seen = self.seen_at(between);
                 let up = self.upright();
                 most_exposed(
-                    up.vertical_above(up.vertical(&seen), l, h),
+                    up.vertical_above(up.vertical(&seen), heights),
                     self.level().horizontal(&seen),
                 )
             }
@@ -216,11 +223,11 @@ impl Distance {
 
     // A target below the base: f(l+h) - f(h).
     #[tactic(auto, unfolding(crate::specs::Chain::factor_at, crate::specs::Chain::by_face, crate::specs::Chain::vertical_below, crate::specs::Chain::horizontal_below))]
-    fn factor_below(&self, face: Face, l: Answer, h: Answer) -> Answer
-        ensures { result ≡ chain.factor_at answers false (face_number face) l h self.now.e }
+    fn factor_below(&self, face: Face, heights: &Heights) -> Answer
+        ensures { result ≡ chain.factor_at answers false (face_number face) heights.now.l heights.now.h self.now.e }
     {
-        let top = self.seen_at(l + h);
-        let base = self.seen_at(h);
+        let top = self.seen_at(heights.l + heights.h);
+        let base = self.seen_at(heights.h);
         match face {
             Face::Vertical => {
                 let up = self.upright();
@@ -242,16 +249,16 @@ impl Distance {
     }
 }
 
-// The factor of a face at a height, from the base up or below it; h is its magnitude in radii.
-pub(crate) fn factor_at(height: i32, face: Face, l: Answer, h: Answer, e: Answer) -> Answer
+// The factor of a face at a height, from the base up or below it.
+pub(crate) fn factor_at(height: i32, face: Face, heights: &Heights, e: Answer) -> Answer
     requires { Spaced e }
-    ensures { result ≡ chain.factor_at answers (non_neg height) (face_number face) l h e }
+    ensures { result ≡ chain.factor_at answers (non_neg height) (face_number face) heights.now.l heights.now.h e }
 {
     let distance = Distance::new(e);
     if 0 <= height {
-        distance.factor_above(face, l, h)
+        distance.factor_above(face, heights)
     } else {
-        distance.factor_below(face, l, h)
+        distance.factor_below(face, heights)
     }
 }
 
@@ -266,15 +273,11 @@ pub fn factor(l: u64, e: u64, face: u8) -> Result<Pair, Outside>
     if outside(e, 40_000_000_000, 400_000_000_000_000) {
         return Err(Outside::Distance);
     }
-    let Ok(face) = Face::try_from(face) else {
-        return Err(Outside::Face);
+    let face = Face::try_from(face).or(Err(Outside::Face))?;
+    let heights = Heights {
+        l: Answer::exact(l),
+        h: Answer::exact(0),
     };
-    let factor = factor_at(
-        0,
-        face,
-        Answer::exact(l),
-        Answer::exact(0),
-        Answer::exact(e),
-    );
+    let factor = factor_at(0, face, &heights, Answer::exact(e));
     Ok(factor.pair())
 }

@@ -9,7 +9,7 @@ ghost use Rattle.chain.specs.Private.{method_number, FlameOf, Prints};
 use super::allowed::Allowed;
 use super::answer::Answer;
 use super::enquiry::{Enquiry, Printed, Turned};
-use super::factor::factor_at;
+use super::factor::{Heights, factor_at};
 use super::kinds::Method;
 use super::pool::{PoolFlame, diameter, flame};
 use pairs::answer::Pair;
@@ -38,9 +38,9 @@ fn radiant_flux(a: Allowed, diameter: Answer, flame: &PoolFlame) -> Answer
     let e = a.enquiry;
     let radius = diameter / 2;
     let l = flame.height / radius;
-    let elevation = Answer::exact(e.height.unsigned_abs() as u64 * 1_000_000_000) / radius;
+    let h = Answer::exact(e.height.unsigned_abs() as u64 * 1_000_000_000) / radius;
     let distance = Answer::exact(e.distance as u64 * 1_000_000_000) / radius;
-    let factor = factor_at(e.height, a.face, l, elevation, distance);
+    let factor = factor_at(e.height, a.face, &Heights { l, h }, distance);
     transmitted(e.transmissivity, flame.power * factor)
 }
 

@@ -9,7 +9,8 @@ use Rattle.pairs.specs.Figures.{Figures, given, refused}
 use Rattle.pairs.specs.Answers.{answers}
 use Rattle.chain.specs.Chain as chain
 use Rattle.chain.specs.Factor.{factor_tests, factor_of}
-use Rattle.chain.specs.Private.{NoneApplies}
+use Rattle.chain.specs.Private.{face_number, NoneApplies}
+use Rattle.std.proofs.Common.{rules}
 use Rattle.chain.proofs.FirstThatApplies.{none_told}
 use Rattle.chain.proofs.Limits.{between}
 use Rattle.chain.proofs.InLimits.{face_inside}
@@ -29,5 +30,7 @@ worked l e face none a x y z n p f g m q i j =
 
 pub returns : goal.returns
 unfolding factor_tests
-returns c = worked _ _ _ (sym c.if-outside.ensures, (sym c.if-outside-2.ensures, (face_inside c.in-Ok.face c.in-Ok.ensures, tt)))
-    _ _ _ _ _ _ c.exact.ensures c.exact-2.ensures c.exact-3.ensures c.in-Ok.ensures c.factor_at-factor.ensures c.pair.ensures
+returns c =
+    let face : face_number c.in_ok-face.face ≡ c.args.face = search rules in
+    worked _ _ _ (sym c.if-outside.ensures, (sym c.if-outside-2.ensures, (face_inside _ face, tt)))
+    _ _ _ _ _ _ c.exact.ensures c.exact-2.ensures c.exact-3.ensures face c.factor_at-factor.ensures c.pair.ensures

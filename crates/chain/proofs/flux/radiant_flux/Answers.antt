@@ -58,7 +58,7 @@ returns c =
     let w = limited_of c.args.a in
     let radius = radius_is c.div-radius.ensures c.requires.diameter_value in
     let l = c.div-l.ensures ∙ ap₂ A.quotient flame.height radius in
-    let elevation = elevation_is E w (search rules) c.div-elevation.ensures c.exact.ensures radius in
+    let elevation = elevation_is E w (search rules) c.div-h.ensures c.exact.ensures radius in
     let distance = distance_is E w refl c.div-distance.ensures c.exact-2.ensures radius in
     let factor = c.factor_at-factor.ensures ∙ same_factor c.args.a.face_is (search rules) l elevation distance in
     c.transmitted.ensures ∙ ap (chain.transmitted A.answers E.transmissivity) (c.mul.ensures ∙ ap₂ A.product flame.power factor)
