@@ -1,28 +1,20 @@
 // The answers that the fill writes for a sheet, ten bytes for each target, and the group of each.
 ghost use Rattle.std.specs.Prelude.{◌≡◌, ◌+◌, ◌*◌, ◌/◌, ◌≤◌, length};
 ghost use Rattle.sheet.specs.Layout.{answer_size, most_targets};
-ghost use Rattle.sheet.specs.Bytes.{four};
 ghost use Rattle.drawing.specs.Figures.{ends};
 ghost use Rattle.drawing.specs.Groups.{listed};
-ghost use Rattle.drawing.specs.Private.{shown_in, group_in, TargetsOf};
+ghost use Rattle.drawing.specs.Private.{shown_in, group_in, GroupsOf};
 
 use super::figures::{Ends, group_of};
 use super::groups::Groups;
 use arrayvec::ArrayVec;
+use sheet::fill::fill;
 use sheet::reading::{Fault, read};
 
-pub(crate) const ANSWER_SIZE: usize = 10;
+const ANSWER_SIZE: usize = 10;
 
 // Room for the answers of the most targets, 512.
-pub(crate) const ROOM: usize = 5120;
-
-// The number in four bytes, most significant first. `sheet` has one too, its own: a library's public functions are those of the papers.
-fn four(s: &[u8], at: usize) -> u32
-    requires { at + 4 ≤ length s.now }
-    ensures { result ≡ four s.now at }
-{
-    u32::from_be_bytes([s[at], s[at + 1], s[at + 2], s[at + 3]])
-}
+const ROOM: usize = ANSWER_SIZE * 512;
 
 // The ends of an answer: its low and high, or its state, the number of the refusal.
 fn ends_in(answer: &[u8]) -> Ends
@@ -33,11 +25,13 @@ fn ends_in(answer: &[u8]) -> Ends
     if state != 0 {
         return Ends::Refused(state);
     }
-    Ends::Answered(four(answer, 1) as f64, four(answer, 5) as f64)
+    let low = u32::from_be_bytes([answer[1], answer[2], answer[3], answer[4]]);
+    let high = u32::from_be_bytes([answer[5], answer[6], answer[7], answer[8]]);
+    Ends::Answered(low as f64, high as f64)
 }
 
 // The groups of some answers, in their order.
-pub(crate) fn groups_in(answers: &[u8]) -> Groups
+fn groups_in(answers: &[u8]) -> Groups
     requires { length answers.now ≤ answer_size * most_targets }
     ensures { result.items ≡ listed (group_in answers.now) (length answers.now / answer_size) }
 {
@@ -48,9 +42,12 @@ pub(crate) fn groups_in(answers: &[u8]) -> Groups
     groups
 }
 
-// How many targets the sheet has.
-pub(crate) fn targets(sheet: &[u8]) -> Result<usize, Fault>
-    ensures { TargetsOf result sheet.now }
+// The groups of a sheet, or its fault. What reading accepts is filled: there is room for the most targets.
+pub(crate) fn groups_read(sheet: &[u8]) -> Result<Groups, Fault>
+    ensures { GroupsOf result sheet.now }
 {
-    Ok(read(sheet)?.targets)
+    let targets = read(sheet)?.targets;
+    let mut answers = [0u8; ROOM];
+    let _ = fill(sheet, &mut answers);
+    Ok(groups_in(&answers[..ANSWER_SIZE * targets]))
 }

@@ -1,14 +1,12 @@
 // The groups of a sheet in a lent slice, for a host in C or Rust.
 ghost use Rattle.std.specs.Prelude.{◌≡◌, ◌+◌, ◌*◌, ◌≤◌, length};
-ghost use Rattle.sheet.specs.Layout.{answer_size, most_targets};
+ghost use Rattle.sheet.specs.Fill.{returned};
 ghost use Rattle.sheet.specs.Private.{pasted};
-ghost use Rattle.drawing.specs.Groups.{listed};
 ghost use Rattle.drawing.specs.Lent.{group_size, floats, laid_out, fill_groups_of};
-ghost use Rattle.drawing.specs.Private.{group_in};
 
-use super::answers::{ANSWER_SIZE, ROOM, groups_in, targets};
+use super::answers::groups_read;
 use super::figures::Group;
-use sheet::fill::fill;
+use sheet::fill::NotFilled;
 
 const GROUP_SIZE: usize = 3;
 
@@ -30,20 +28,14 @@ fn put_groups(groups: &[Group], out: &mut [f64])
     }
 }
 
-// Writes three floats per target of the sheet and returns 0; or writes nothing and returns the number of the refusal, which the export
-// hands on.
-pub fn fill_groups(sheet: &[u8], out: &mut [f64]) -> u8
-    ensures { (result ≡ (fill_groups_of sheet.now out.old).number) × (out.new ≡ (fill_groups_of sheet.now out.old).elements) }
+// Writes three floats per target of the sheet; or writes nothing.
+pub fn fill_groups(sheet: &[u8], out: &mut [f64]) -> Result<(), NotFilled>
+    ensures { (returned result ≡ (fill_groups_of sheet.now out.old).number) × (out.new ≡ (fill_groups_of sheet.now out.old).elements) }
 {
-    let targets = match targets(sheet) {
-        Ok(targets) => targets,
-        Err(why) => return u8::from(why),
-    };
-    if out.len() < GROUP_SIZE * targets {
-        return 31;
+    let groups = groups_read(sheet)?;
+    if out.len() < GROUP_SIZE * groups.len() {
+        return Err(NotFilled::NoRoom);
     }
-    let mut answers = [0u8; ROOM];
-    fill(sheet, &mut answers);
-    put_groups(groups_in(&answers[..ANSWER_SIZE * targets]).as_slice(), out);
-    0
+    put_groups(groups.as_slice(), out);
+    Ok(())
 }

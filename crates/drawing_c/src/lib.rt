@@ -9,5 +9,8 @@ ghost use Rattle.drawing.specs.Lent.{fill_groups_of};
 pub extern "C" fn fill_groups(sheet: &[u8], out: &mut [f64]) -> u8
     ensures { (result ≡ (fill_groups_of sheet.now out.old).number) × (out.new ≡ (fill_groups_of sheet.now out.old).elements) }
 {
-    drawing::lent::fill_groups(sheet, out)
+    match drawing::lent::fill_groups(sheet, out) {
+        Ok(()) => 0,
+        Err(why) => u8::from(why),
+    }
 }

@@ -4,12 +4,10 @@ use Rattle.chain.specs.Flux.{Shown}
 use Rattle.sheet.specs.declared.reading.Fault.{Fault}
 use Rattle.sheet.specs.declared.reading.Fault.TheVariants.{CutShort, TooMany}
 use Rattle.sheet.specs.declared.target.Entry.{Entry}
-use Rattle.sheet.specs.declared.fill.NotFilled.{NotFilled}
-use Rattle.sheet.specs.declared.fill.NotFilled.TheVariants as refusal
 use Rattle.sheet.specs.declared.text.Text.{Text}
 use Rattle.sheet.specs.Layout.{count_size}
 use Rattle.sheet.specs.Bytes.{two}
-use Rattle.sheet.specs.Reading.{number_of, some}
+use Rattle.sheet.specs.Reading.{some}
 
 abbrev pub choose : Bool → Result ℕ Fault → Result ℕ Fault → Result ℕ Fault
 choose true a b = a
@@ -34,15 +32,6 @@ stray s first size count limit = some (λ i. leb limit (two s (first + size * i)
 
 abbrev pub shown_by : Entry → Shown
 shown_by e = record { state = e.state; low = e.low; high = e.high; note = e.note }
-
--- The number that a fill returns.
-abbrev pub not_filled : NotFilled → ℕ
-not_filled (refusal.Sheet why) = number_of why
-not_filled refusal.NoRoom = 31
-
-abbrev pub returned : Result (Unit {0}) NotFilled → ℕ
-returned (Ok _) = 0
-returned (Err why) = not_filled why
 
 -- d with vs in the place of what stood from `at` on.
 unfoldable pub pasted : {A : Type 0} → List A → ℕ → List A → List A

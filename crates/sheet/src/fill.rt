@@ -3,8 +3,8 @@ ghost use Rattle.std.specs.Prelude.{◌≡◌, ◌+◌, ◌*◌, ◌≤◌, leng
 ghost use Rattle.chain.specs.Flux.{shown};
 ghost use Rattle.sheet.specs.declared.fill.NotFilled.TheVariants.{Sheet};
 ghost use Rattle.sheet.specs.Layout.{answer_size};
-ghost use Rattle.sheet.specs.Fill.{ten_bytes, answers, fill_of};
-ghost use Rattle.sheet.specs.Private.{not_filled, returned, pasted};
+ghost use Rattle.sheet.specs.Fill.{ten_bytes, answers, not_filled, returned, fill_of};
+ghost use Rattle.sheet.specs.Private.{pasted};
 
 use super::layout::ANSWER_SIZE;
 use super::reading::{Accepted, Fault};
@@ -13,7 +13,7 @@ use chain::enquiry::{Printed, Turned};
 
 // Why nothing is written: the sheet's fault, or fewer than ten bytes per target.
 #[derive(Clone, Copy)]
-enum NotFilled {
+pub enum NotFilled {
     Sheet(Fault),
     NoRoom,
 }
@@ -60,7 +60,8 @@ fn put_answers(out: &mut [u8], sheet: &Accepted)
 }
 
 // The fill, or why nothing is written.
-fn try_fill(sheet: &[u8], out: &mut [u8]) -> Result<(), NotFilled>
+// Writes ten bytes per target of the sheet; or writes nothing.
+pub fn fill(sheet: &[u8], out: &mut [u8]) -> Result<(), NotFilled>
     ensures { (returned result ≡ (fill_of sheet.now out.old).number) × (out.new ≡ (fill_of sheet.now out.old).elements) }
 {
     let sheet = Accepted::read(sheet)?;
@@ -69,14 +70,4 @@ fn try_fill(sheet: &[u8], out: &mut [u8]) -> Result<(), NotFilled>
     }
     put_answers(out, &sheet);
     Ok(())
-}
-
-// Writes ten bytes per target of the sheet and returns 0; or writes nothing and returns the number of the refusal, which the export hands on.
-pub fn fill(sheet: &[u8], out: &mut [u8]) -> u8
-    ensures { (result ≡ (fill_of sheet.now out.old).number) × (out.new ≡ (fill_of sheet.now out.old).elements) }
-{
-    match try_fill(sheet, out) {
-        Ok(()) => 0,
-        Err(why) => u8::from(why),
-    }
 }

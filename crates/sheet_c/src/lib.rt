@@ -9,5 +9,8 @@ ghost use Rattle.sheet.specs.Fill.{fill_of};
 pub extern "C" fn fill(sheet: &[u8], out: &mut [u8]) -> u8
     ensures { (result ≡ (fill_of sheet.now out.old).number) × (out.new ≡ (fill_of sheet.now out.old).elements) }
 {
-    sheet::fill::fill(sheet, out)
+    match sheet::fill::fill(sheet, out) {
+        Ok(()) => 0,
+        Err(why) => u8::from(why),
+    }
 }

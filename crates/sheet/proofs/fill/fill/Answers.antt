@@ -1,4 +1,4 @@
--- `try_fill` meets its contract: the sheet's fault, too little room, or the answers of all targets.
+-- `fill` meets its contract: the sheet's fault, too little room, or the answers of all targets.
 -- Assumes nothing.
 use mathlib.Core.Path.{ap, ◌∙◌}
 use Prim.Native.Nat.{ℕ}
@@ -8,7 +8,7 @@ use Rattle.sheet.specs.Lent.{Lent}
 use Rattle.sheet.specs.Fill.{answers}
 use Rattle.sheet.proofs.Lending.{no_room}
 use Rattle.sheet.proofs.Filling.{fill_refused, fill_accepted, written}
-use Rattle.sheet.proofs.fill.try_fill.Goals as goal
+use Rattle.sheet.proofs.fill.fill.Goals as goal
 
 pub returns-in_err-sheet : goal.returns-in_err-sheet
 returns-in_err-sheet c =
