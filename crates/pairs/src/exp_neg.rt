@@ -1,8 +1,9 @@
 // exp(-y): a series in y over 256, squared eight times; where y's low end is 20 or more, [0, 2,062 trillionths] (request 8).
-ghost use Rattle.std.specs.Prelude.{◌≡◌, ◌+◌, ◌≤◌};
+ghost use Rattle.std.specs.Prelude.{◌≡◌, ◌*◌, ◌≤◌, ◌<◌};
 ghost use Rattle.pairs.specs.Rounded.{U};
-ghost use Rattle.pairs.specs.Figures.{figures};
-ghost use Rattle.pairs.specs.Answers.{exp_neg_of};
+ghost use Rattle.pairs.specs.Figures.{figures, given};
+ghost use Rattle.pairs.specs.Answers.{answers, exp_neg_of};
+ghost use Rattle.pairs.specs.Series.{exp_series};
 ghost use Rattle.pairs.specs.Private.{exp_from};
 
 use super::answer::{Pair, Refusal};
@@ -30,8 +31,25 @@ impl Terms for ExpTerms {
     }
 }
 
+// The series for a y below 256, squared eight times. It is no part of exp_neg's own code: inlined, it makes the cold pair take 5.9 ns and
+// not 5.0.
+#[inline(never)]
+fn by_series(y: Pair) -> Result<Pair, Refusal>
+    requires { (y.low ≤ y.high) × (y.high < 256 * U) }
+    ensures { figures result ≡ exp_series answers (given y) }
+{
+    let mut power = alternating(ExpTerms {
+        term: ONE,
+        z: y.divided_by(256),
+    });
+    for _ in 0..8u64 {
+        power = product(power, power)?;
+    }
+    Ok(power)
+}
+
 // exp(-y), y below 256.
-#[tactic(auto, using(crate::proofs::Refusals::exp_61, crate::proofs::Refusals::exp_63, crate::proofs::Refusals::exp_cold))]
+#[tactic(auto, using(crate::proofs::Refusals::exp_61, crate::proofs::Refusals::exp_63, crate::proofs::Refusals::exp_cold, crate::proofs::Refusals::exp_below_20))]
 pub fn exp_neg(y: Pair) -> Result<Pair, Refusal>
     ensures { figures result ≡ exp_neg_of y }
 {
@@ -45,12 +63,5 @@ pub fn exp_neg(y: Pair) -> Result<Pair, Refusal>
             high: 2_062,
         });
     }
-    let mut power = alternating(ExpTerms {
-        term: ONE,
-        z: y.divided_by(256),
-    });
-    for _ in 0..8u64 {
-        power = product(power, power)?;
-    }
-    Ok(power)
+    by_series(y)
 }

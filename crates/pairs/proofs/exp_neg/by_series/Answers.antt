@@ -1,4 +1,4 @@
--- `exp_neg` meets its contract: 61, then 63, then the cold pair, then the series, of which no step is refused, and eight squares.
+-- `by_series` meets its contract: the series, of which no step is refused, and eight squares.
 -- The loop holds what is left of the squares. Assumes nothing.
 use mathlib.Core.Path.{◌≡◌, refl, sym, ap, ◌∙◌}
 use Prim.Native.Nat.{ℕ, zero, suc, ◌+◌, ◌*◌, ◌-◌, ◌≤◌, ◌<◌}
@@ -14,8 +14,7 @@ use Rattle.pairs.proofs.Lifted.{handed_on}
 use Rattle.pairs.proofs.Turned.{over_turned}
 use Rattle.pairs.proofs.Terms.{Within, exp_given}
 use Rattle.pairs.proofs.Turns.{exp_alternating}
-use Rattle.pairs.proofs.Refusals.{exp_below_20}
-use Rattle.pairs.proofs.exp_neg.exp_neg.Goals as goal
+use Rattle.pairs.proofs.exp_neg.by_series.Goals as goal
 
 -- y over 256
 module _ (y : Pair) (o : y.low ≤ y.high) (small : y.high < 256 * U) where
@@ -59,12 +58,10 @@ pub returns-in_err-power : goal.returns-in_err-power
 unfolding A.product
 returns-in_err-power c =
     let k : ℕ = 8 - (c.loop.counter + 1) in
-    handed_on (squared answers k) (still_refused k) _ _ _ c.from_residual-in_err-power.ensures.1 c.in_err-power.ensures
+    handed_on (squared answers k) (still_refused k) _ _ _ c.from_residual.ensures.1 c.in_err-power.ensures
     ∙ again _ _ _ _ (omega arith) refl c.loop.invariant.1
     ∙ all_squares c.args.y (omega arith) (omega arith) _ (c.alternating-power.ensures ∙ exp_alternating _ _ c.divided_by.ensures.is)
-    ∙ exp_below_20 _ (omega arith) (omega arith) (omega arith)
 
 pub returns : goal.returns
 returns c = finished _ _ _ (omega arith) c.loop.invariant.1
     ∙ all_squares c.args.y (omega arith) (omega arith) _ (c.alternating-power.ensures ∙ exp_alternating _ _ c.divided_by.ensures.is)
-    ∙ exp_below_20 _ (omega arith) (omega arith) (omega arith)
