@@ -31,8 +31,7 @@ impl Terms for ExpTerms {
     }
 }
 
-// The series for a y below 256, squared eight times. It is no part of exp_neg's own code: inlined, it makes the cold pair take 5.9 ns and
-// not 5.0.
+// The series for a y below 256, squared eight times. Not inlined: as part of exp_neg it makes the cold pair take 5.9 ns and not 3.7.
 #[inline(never)]
 fn by_series(y: Pair) -> Result<Pair, Refusal>
     requires { (y.low ≤ y.high) × (y.high < 256 * U) }
