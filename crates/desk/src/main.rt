@@ -5,7 +5,8 @@ use input::buffer::read_into;
 use input::sheets::ROOM;
 use std::io;
 
-// The report of a sheet, on standard output. As in `replay`: a library that prints would be no plainer than these three lines.
+// The report of a sheet, on standard output. As in `replay`: a library's function has a contract, and no clause can say what standard
+// output takes.
 fn print(rt: &impl Print, sheet: &[u8]) -> io::Result<()> {
     let mut text = [0u8; sheet::report::ROOM];
     let n = sheet::report::report(sheet, &mut text);

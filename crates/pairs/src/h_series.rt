@@ -7,7 +7,7 @@ ghost use Rattle.pairs.specs.Series as series;
 
 use super::answer::{Pair, Refusal};
 use super::series::ArcTerms;
-use super::unit::NONE;
+use super::unit::ZERO;
 
 // The high end of 1/3.
 const A_THIRD: u64 = 333_333_333_334;
@@ -18,7 +18,7 @@ fn total_of_terms(t: Pair) -> Pair
     ensures { result ≡ series.h_series rounded.rounded t }
 {
     let mut terms = ArcTerms::of(t);
-    let mut sum = NONE;
+    let mut sum = ZERO;
     for n in 0..16u64 {
         sum = sum.plus(terms.term(n));
     }

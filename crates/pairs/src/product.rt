@@ -86,9 +86,7 @@ pub fn product(p: Pair, q: Pair) -> Result<Pair, Refusal>
 {
     p.admit()?;
     q.admit()?;
-    let Some(high) = checked_product(p.high, q.high, Rounding::Up) else {
-        return Err(Refusal::TooLarge);
-    };
+    let high = checked_product(p.high, q.high, Rounding::Up).ok_or(Refusal::TooLarge)?;
     Ok(Pair {
         low: rounded_product(p.low, q.low, Rounding::Down),
         high,

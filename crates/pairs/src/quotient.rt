@@ -19,9 +19,7 @@ pub fn quotient(p: Pair, q: Pair) -> Result<Pair, Refusal>
     }
     // rounded down by c, this is bU/c rounded up
     let raised = in_trillionths(p.high) + u128::from(q.low - 1);
-    let Some(high) = checked_divided(raised, q.low) else {
-        return Err(Refusal::TooLarge);
-    };
+    let high = checked_divided(raised, q.low).ok_or(Refusal::TooLarge)?;
     Ok(Pair {
         low: divided(in_trillionths(p.low), q.high),
         high,

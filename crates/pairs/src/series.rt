@@ -7,7 +7,7 @@ ghost use Rattle.pairs.specs.Private.{power_from};
 ghost use Rattle.pairs.specs.Series as series;
 
 use super::answer::Pair;
-use super::unit::NONE;
+use super::unit::ZERO;
 
 // The terms of a series, one after another, each at most 1.
 pub(crate) trait Terms: Drop {
@@ -27,8 +27,8 @@ pub(crate) fn alternating<T: Terms>(mut terms: T) -> Pair
     ensures { result ≡ series.alternating rounded.rounded (T.to_come terms 0) }
 {
     // the sum that the next term joins, and the other: they change places at each term
-    let mut sum = NONE;
-    let mut other = NONE;
+    let mut sum = ZERO;
+    let mut other = ZERO;
     for n in 0..16u64 {
         let more = sum.plus(terms.next(n));
         sum = other;

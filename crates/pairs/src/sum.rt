@@ -27,9 +27,7 @@ pub fn sum(p: Pair, q: Pair) -> Result<Pair, Refusal>
 {
     p.admit()?;
     q.admit()?;
-    let Some(high) = p.high.checked_add(q.high) else {
-        return Err(Refusal::TooLarge);
-    };
+    let high = p.high.checked_add(q.high).ok_or(Refusal::TooLarge)?;
     Ok(Pair {
         low: p.low + q.low,
         high,

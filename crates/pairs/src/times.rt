@@ -11,9 +11,7 @@ pub fn times(p: Pair, n: u64) -> Result<Pair, Refusal>
     ensures { figures result ≡ times_of p n }
 {
     p.admit()?;
-    let Some(high) = p.high.checked_mul(n) else {
-        return Err(Refusal::TooLarge);
-    };
+    let high = p.high.checked_mul(n).ok_or(Refusal::TooLarge)?;
     Ok(Pair {
         low: p.low * n,
         high,

@@ -11,7 +11,7 @@ pub(crate) const ONE: Pair = Pair {
     high: UNIT,
 };
 
-pub(crate) const NONE: Pair = Pair { low: 0, high: 0 };
+pub(crate) const ZERO: Pair = Pair { low: 0, high: 0 };
 
 // a·U.
 pub(crate) fn in_trillionths(a: u64) -> u128

@@ -67,11 +67,9 @@ pub(crate) fn radius_of(area: u32) -> u32
     radius.high.div_ceil(1_000_000_000) as u32
 }
 
-// The whole part of the root of n: the root of n trillionths, over a million.
+// The whole part of the root of n.
 pub(crate) fn whole_root(n: u64) -> u32
-    requires { n < 10_000_000_000_000 }
     ensures { result ≡ root_down n }
 {
-    let root = root(Pair { low: n, high: n }).unwrap();
-    (root.low / 1_000_000) as u32
+    n.isqrt() as u32
 }

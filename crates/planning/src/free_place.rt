@@ -89,7 +89,7 @@ impl Walk {
         FluxAtRim { rim, flux }
     }
 
-    // Row by row. Nested loops left by their label with the found place: document 01 names this form.
+    // Row by row. Nested loops in a block that its label leaves with the found place: a form that document 01 names.
     fn first_free(self, first: FluxAtRim) -> Result<Place, NoPlace>
         requires { Asked self.scenario first }
         ensures { shown result ≡ walked self.scenario self.limit self.grid.grid }

@@ -4,7 +4,8 @@
 use input::sheets::each_sheet;
 use std::io;
 
-// The report of a sheet, on standard output. As in `desk`: a library that prints would be no plainer than these three lines.
+// The report of a sheet, on standard output. As in `desk`: a library's function has a contract, and no clause can say what standard
+// output takes.
 fn print(rt: &impl Print, sheet: &[u8]) -> io::Result<()> {
     let mut text = [0u8; sheet::report::ROOM];
     let n = sheet::report::report(sheet, &mut text);

@@ -1,9 +1,7 @@
 -- `centre_distance` meets its contract: the two offsets, their squares, and the root.
 -- Assumes nothing.
 use mathlib.Core.Path.{ap₂, ◌∙◌}
-use Prim.Native.Nat.{ℕ, ◌+◌, ◌*◌, ◌≤◌}
-use native.Mathlib.Nat.{mul-le-mul}
-use native.Mathlib.Omega.{arith}
+use Prim.Native.Nat.{ℕ, ◌+◌, ◌*◌}
 use mir.Syntax.{w32}
 use mir.Val.{SFits}
 use mir.ValLaws.{to_z-of_z}
@@ -11,12 +9,6 @@ use Rattle.std.proofs.Common.{rules}
 use Rattle.pairs.specs.Rounded.{root_down}
 use Rattle.planning.specs.Grid.{centre_distance}
 use Rattle.planning.proofs.grid.GridInLimits.centre_distance.Goals as goal
-
-pub whole_root-requires : goal.whole_root-requires
-whole_root-requires c =
-    let east : c.from-eastward.result ≤ 1_630_000 = omega arith in
-    let north : c.from-northward.result ≤ 1_630_000 = omega arith in
-    omega (arith, mul-le-mul east east, mul-le-mul north north)
 
 pub returns : goal.returns
 unfolding centre_distance
