@@ -13,4 +13,5 @@ pub mod Turns
 pub mod Refusals
 pub mod Lifted
 pub mod Covers
+pub mod WholeRoot
 pub mod PiPair

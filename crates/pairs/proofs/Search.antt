@@ -1,9 +1,9 @@
 -- The greatest and the least number that passes a test, and the roots that they name: what passes, what is bounded, and the
 -- law that names each without a search. By induction over the search; a power that grows bounds its roots. Assumes nothing.
-use mathlib.Core.Path.{◌≡◌, refl, subst}
+use mathlib.Core.Path.{◌≡◌, refl, sym, subst}
 use mathlib.Core.Bool.{Bool, true, false}
-use Prim.Native.Nat.{ℕ, zero, suc, ◌+◌, ◌*◌, ◌-◌, ◌^◌, ◌≤◌, ◌<◌, zero-le}
-use native.Mathlib.Nat.{le_trans, le_refl, lt_of_not-le, not-le_of_lt, not-suc-le_self, mul-le-mul, mul-le-mul_left, mul-le-mul_right, mul_comm}
+use Prim.Native.Nat.{ℕ, zero, suc, ◌+◌, ◌*◌, ◌-◌, ◌/◌, ◌≤◌, ◌<◌, zero-le}
+use native.Mathlib.Nat.{le_trans, le_refl, lt_of_not-le, not-le_of_lt, not-suc-le_self, mul-le-mul, mul-le-mul_left, mul-le-mul_right, mul_comm, mul_assoc, suc-mul, le_of_mul-le-mul_right, div-mul-le_self, lt-div-mul-add}
 use native.Mathlib.Decide.{dec_le}
 use native.Mathlib.Omega.{arith}
 use lib.Dec.{T, leb, leb→le, le→leb, lit<}
@@ -177,6 +177,30 @@ pub root_down_is : (n s : ℕ) → s * s ≤ n → n < suc s * suc s → root_do
 unfolding root_down square
 root_down_is n s h k = down_is square square_grows n n (square_within n) s h k
 
+-- The root of n·k·k, over k, is that of n.
+module _ (n k : ℕ) (p : zero < k) where
+  abbrev t : ℕ
+  t = root_down (n * (k * k))
+
+  squares : (s : ℕ) → s * k * (s * k) ≡ s * s * (k * k)
+  squares s = rw (mul_assoc s k (s * k), ← mul_assoc k s k, mul_comm k s, mul_assoc s k k, ← mul_assoc s s (k * k))
+
+  scaled_passes : t / k * (t / k) ≤ n
+  scaled_passes =
+      le_of_mul-le-mul_right
+      (rw (← squares (t / k)) (le_trans (mul-le-mul (div-mul-le_self t k) (div-mul-le_self t k)) (root_down_passes (n * (k * k)))))
+      (le_trans p (self_square k))
+
+  scaled_next : n < suc (t / k) * suc (t / k)
+  scaled_next =
+      let next : suc t ≤ suc (t / k) * k = omega (arith, lt-div-mul-add {a = t} p, suc-mul (t / k) k) in
+      lt_of_not-le
+      (λ l.
+      not-le_of_lt (root_down_next (n * (k * k))) (le_trans (mul-le-mul next next) (rw (squares (suc (t / k))) (mul-le-mul_right (k * k) l))))
+
+  pub root_down_scaled : root_down (n * (k * k)) / k ≡ root_down n
+  root_down_scaled = sym (root_down_is n (t / k) scaled_passes scaled_next)
+
 pub root_up_passes : (n : ℕ) → n ≤ root_up n * root_up n
 unfolding root_up square
 root_up_passes n = up_passes square square_grows n n (self_square n)
@@ -185,10 +209,6 @@ root_up_passes n = up_passes square square_grows n n (self_square n)
 pub root_up_bound : (n s : ℕ) → n ≤ s * s → root_up n ≤ s
 unfolding root_up square
 root_up_bound n s h = up_bound square square_grows n n s h
-
--- The root of b trillionths is a word.
-pub root_up_short : (b : ℕ) → b < 2 ^ 64 → root_up (b * U) < 2 ^ 64
-root_up_short b f = let k : root_up (b * U) ≤ 2 ^ 63 = root_up_bound (b * U) (2 ^ 63) (omega arith) in omega arith
 
 pub root_up_before : (n : ℕ) → zero < n → (root_up n - 1) * (root_up n - 1) < n
 unfolding square

@@ -102,7 +102,7 @@ fn high_start(p: Pair, near: u64) -> u64
 }
 
 // [root of aU down, root of bU up].
-#[tactic(auto, unfolding(crate::specs::Rounded::root, crate::specs::Answers::root_of, crate::specs::Answers::fitting), using(crate::proofs::Search::root_up_short))]
+#[tactic(auto, unfolding(crate::specs::Rounded::root, crate::specs::Answers::root_of, crate::specs::Answers::fitting), using(crate::proofs::WholeRoot::root_up_short))]
 pub fn root(p: Pair) -> Result<Pair, Refusal>
     ensures { figures result ≡ root_of p }
 {
