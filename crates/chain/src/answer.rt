@@ -172,7 +172,7 @@ impl Answer {
         self.found == Ok(Pair { low: 0, high: 0 })
     }
 
-    // The pair, [0, 0] of a refusal.
+    // The pair, [0, 0] of a refusal: `figures` has it so, which every clause speaks of.
     pub(crate) fn pair(self) -> Pair
         ensures { result ≡ self.pair }
     {

@@ -144,7 +144,7 @@ impl Upright {
         (y / self.root).atan() / self.x
     }
 
-    // The vertical face (B.2).
+    // The vertical face (B.2). That what is seen is at this distance relates the two, and is no fact of either.
     #[tactic(auto, unfolding(crate::specs::Chain::vertical, crate::specs::Chain::vertical_ratio, pairs::specs::Answers::constant, pairs::specs::Answers::fitting, pairs::specs::Rounded::constant))]
     fn vertical(&self, seen: &Seen) -> Answer
         requires { seen.now.e ≡ self.now.distance.e }

@@ -18,7 +18,7 @@ fn put_group(out: &mut [f64], at: usize, g: Group)
     out[at..at + GROUP_SIZE].copy_from_slice(&[g.low, g.middle, g.high]);
 }
 
-// The floats of these groups, from the front of a slice with room for them.
+// The floats of these groups, from the front of a slice with room for them. Each at its place, as the definition lays them out.
 fn put_groups(groups: &[Group], out: &mut [f64])
     requires { group_size * length groups.now ≤ length out.old }
     ensures { out.new ≡ pasted out.old 0 (laid_out groups.now) }

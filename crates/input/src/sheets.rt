@@ -32,7 +32,8 @@ impl Line {
         }
     }
 
-    // One byte more: a line feed ends a sheet, two digits are a byte of it, and what is no digit is passed over.
+    // One byte more: a line feed ends a sheet, two digits are a byte of it, and what is no digit is passed over. The closure is of the
+    // caller's type, so each function that takes it asks that it may be called.
     fn push_byte<F: FnMut(&[u8]) -> io::Result<()>>(
         &mut self,
         b: u8,

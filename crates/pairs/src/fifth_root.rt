@@ -37,7 +37,7 @@ fn near_fifth_root(word: u64) -> u64
     s
 }
 
-// One of Newton's steps towards the fifth root of x.
+// One of Newton's steps towards the fifth root of x. A trial is a bare number; a type of its bound would be unwrapped at each step.
 fn nearer(s: u64, x: u64) -> u64
     requires { s ≤ 28_391_212_775_636 }
     ensures { result ≤ 28_391_212_775_636 }
@@ -131,7 +131,8 @@ fn first_above(x: u64, bound: u128, rounding: Rounding) -> u64
     b.upper
 }
 
-// The greatest s whose fifth power, each product rounded up, is at most a.
+// The greatest s whose fifth power, each product rounded up, is at most a. This and the next share `first_above`; they differ in bound,
+// rounding and what is taken off.
 #[tactic(auto, using(crate::proofs::fifth_root::Powers::named_down, crate::proofs::fifth_root::Powers::down_of_zero))]
 fn fifth_root_down_of(a: u64) -> u64
     ensures { result ≡ fifth_root_down a }

@@ -36,7 +36,7 @@ pub(crate) fn fraction(a: u64, c: u64, rounding: Rounding) -> u64
 }
 
 impl Pair {
-    // The product of two numbers of at most 1.
+    // The product of two numbers of at most 1. A type of such pairs would be unwrapped for its ends and wrapped again at each product.
     #[tactic(auto, unfolding(crate::specs::Rounded::product), using(crate::proofs::Turns::product_small))]
     pub(crate) fn small_product(self, q: Pair) -> Pair
         requires { (self.low ≤ self.high) × (self.high ≤ U) × (q.low ≤ q.high) × (q.high ≤ U) }
@@ -63,7 +63,7 @@ pub(crate) fn rounded_product(a: u64, c: u64, rounding: Rounding) -> u64
     a1 * c1 * UNIT + a1 * c0 + a0 * c1 + fraction(a0, c0, rounding)
 }
 
-// a·c/U, or none where it does not fit.
+// a·c/U, or none where it does not fit: each step tested, where `rounded_product` asks that all fit.
 #[tactic(auto, using(crate::proofs::product::Parts::parts))]
 fn checked_product(a: u64, c: u64, rounding: Rounding) -> Option<u64>
     ensures { MatchOption result (2 ^ 64 ≤ carried rounding (a * c)) (λ n. n ≡ carried rounding (a * c)) }

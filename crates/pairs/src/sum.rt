@@ -7,7 +7,7 @@ ghost use Rattle.pairs.specs.Answers.{sum_of};
 use super::answer::{Pair, Refusal};
 
 impl Pair {
-    // The sum, where it fits.
+    // The sum, where it fits; `sum` below tests that.
     #[tactic(auto, unfolding(crate::specs::Rounded::sum))]
     pub(crate) fn plus(self, q: Pair) -> Pair
         requires { (self.low ≤ self.high) × (q.low ≤ q.high) × (self.high + q.high < 2 ^ 64) }

@@ -1,7 +1,7 @@
 -- The radius as the code works it out, operation by operation, is R of step 1; and a circle of the radius in whole mm covers the pool's
 -- area, with pi at its low end. From what each high end covers. Assumes nothing.
-use mathlib.Core.Path.{◌≡◌, sym, ap, ap₂, subst, ◌∙◌}
-use Prim.Native.Nat.{ℕ, ◌*◌, ◌≤◌}
+use mathlib.Core.Path.{◌≡◌, refl, sym, ap, ap₂, subst, ◌∙◌}
+use Prim.Native.Nat.{ℕ, ◌+◌, ◌*◌, ◌/◌, ◌≤◌}
 use native.Mathlib.Nat.{mul-le-mul}
 use native.Mathlib.Omega.{arith}
 use lib.Dec.{lit<}
@@ -78,9 +78,12 @@ pub radius_most : (area : ℕ) → 100 ≤ area → area ≤ 190_000 → (radius
 radius_most area l h = subst (λ (f : Figures). f.pair.high ≤ 25 * U) (radius_given area l h) (radius_held area l h).inside.high
 
 -- ---- in whole mm
-pub in_mm : (area : ℕ) → div_ceil (radius_pair area).high 1_000_000_000 ≡ radius_of area
+pub in_mm : (area n : ℕ) → n ≡ (radius_pair area).high → (n + 999_999_999) / 1_000_000_000 ≡ radius_of area
 unfolding radius_of
-in_mm area = omega (arith, up_by (radius_pair area).high 1_000_000_000)
+in_mm area n e = ap (λ (x : ℕ). (x + 999_999_999) / 1_000_000_000) e ∙ up_by (radius_pair area).high 1_000_000_000
+
+pub rounded_up : (area : ℕ) → div_ceil (radius_pair area).high 1_000_000_000 ≡ radius_of area
+rounded_up area = omega (arith, in_mm area (radius_pair area).high refl)
 
 pub radius_of_most : (area : ℕ) → 100 ≤ area → area ≤ 190_000 → radius_of area ≤ 25_000
 unfolding radius_of

@@ -49,7 +49,8 @@ fn put_answer(out: &mut [u8], at: usize, answer: Result<Printed, Turned>)
     out[at + 9] = e.note;
 }
 
-// The answers of all targets, in their order, from the front of a slice with room for them.
+// The answers of all targets, in their order, from the front of a slice with room for them. By the target's number, as the definition lays
+// them out.
 fn put_answers(out: &mut [u8], sheet: &Accepted)
     requires { answer_size * sheet.now.counts.targets ≤ length out.old }
     ensures { out.new ≡ pasted out.old 0 (answers sheet.now.bytes.now sheet.now.counts.targets) }

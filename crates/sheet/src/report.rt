@@ -38,7 +38,7 @@ fn put_lines(text: &mut Text, sheet: &Accepted)
     }
 }
 
-// The text of an accepted sheet.
+// The text of an accepted sheet. This and the next two ask for the report's room once, of the text that the last hands on.
 fn put_figures(text: &mut Text, sheet: &Accepted)
     requires { text.old.len + report_room ≤ length text.old.buffer.now }
     ensures { Writes text.old (figures_text sheet.now.bytes.now sheet.now.counts.targets) text.new }

@@ -5,7 +5,7 @@ ghost use Rattle.sheet.specs.Private.{Writes};
 
 use itoa::Buffer;
 
-// A buffer whose first `len` bytes are text.
+// A buffer whose first `len` bytes are text. The buffer is the caller's: nothing allocates.
 #[derive(Drop)]
 pub(crate) struct Text<'a> {
     pub(crate) buffer: &'a mut [u8],

@@ -8,7 +8,7 @@ use Rattle.std.specs.Int.{div_ceil}
 use Rattle.std.specs.Prelude.{Result, Ok}
 use Rattle.pairs.specs.declared.answer.Pair.{Pair}
 use Rattle.pairs.specs.declared.answer.Refusal.{Refusal}
-use Rattle.planning.proofs.Radius.{radius_most, in_mm}
+use Rattle.planning.proofs.Radius.{radius_most, rounded_up}
 use Rattle.planning.proofs.distance.radius_of.Goals as goal
 
 unwrapped : (a : Result Pair Refusal) {p q : Pair} → a ≡ Ok p → a ≡ Ok q → p ≡ q
@@ -23,4 +23,4 @@ overflow_cast-result c =
 pub returns : goal.returns
 returns c l h =
     let same = unwrapped c.radius_pair.result c.unwrap-radius.ensures c.radius_pair.ensures in
-    c.div_ceil.ensures ∙ ap (λ (p : Pair). div_ceil p.high 1_000_000_000) same ∙ in_mm c.args.area
+    c.div_ceil.ensures ∙ ap (λ (p : Pair). div_ceil p.high 1_000_000_000) same ∙ rounded_up c.args.area
