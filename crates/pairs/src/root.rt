@@ -72,6 +72,9 @@ fn whole_root(n: u128, near: u64) -> u64
     requires { (n < 2 ^ 104) × (near < 2 ^ 63) }
     ensures { result ≡ root_down n }
 {
+    if n == 0 {
+        return 0;
+    }
     let least = 2 * (n >> 64) as u64 + 2;
     let mut s = refined(n, near.max(least));
     while n < u128::from(s) * u128::from(s) {
