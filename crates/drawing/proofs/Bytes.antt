@@ -1,13 +1,11 @@
 -- What stands in the bytes of a fill that has room for every target: the figures shown for each. By the laws of the fill.
 -- Assumes nothing.
 use mathlib.Core.Path.{◌≡◌, refl, sym, ap, ◌∙◌}
-use mathlib.Core.List.{List, [], ◌++◌}
+use mathlib.Core.List.{List, ◌++◌}
 use Prim.Native.Nat.{ℕ, zero, suc, ◌+◌, ◌*◌, ◌/◌, ◌%◌, ◌<◌}
 use native.Mathlib.Nat.{add-zero, div-div-eq-div-mul}
 use native.Mathlib.Omega.{arith}
-use lib.ListN.{length, take, drop, replicate, length-replicate}
-use Rattle.std.proofs.Math.Seq.{take-append_seam}
-use Rattle.std.proofs.Common.{append-nil}
+use lib.ListN.{drop, replicate, length-replicate}
 use Rattle.chain.specs.Flux.{Shown}
 use Rattle.sheet.specs.Layout.{most_targets, answer_size}
 use Rattle.sheet.specs.Bytes.{one, two, four, four_bytes}
@@ -16,7 +14,6 @@ use Rattle.sheet.specs.Target.{enquiry_of, shown_of}
 use Rattle.sheet.specs.Lent.{Lent}
 use Rattle.sheet.specs.Fill.{ten_bytes, answers, fill_of}
 use Rattle.sheet.proofs.Sections.{refused_none, few_targets}
-use Rattle.sheet.proofs.Filling.{answers_length}
 use Rattle.sheet.proofs.Lending.{filled_with, ample}
 use Rattle.sheet.proofs.Own.{cut, same_one, same_four, own_place}
 use Rattle.drawing.specs.declared.figures.Ends.TheVariants.{Answered}
@@ -89,19 +86,12 @@ answer_read b answer n e =
     let note = same_one b answer at 0 answer_size e 9 (omega arith) in
     sym (λ i. group_of (ends (record { state = state i; low = low i; high = high i; note = note i })))
 
--- All groups of a sheet, from the bytes that the fill leaves for its targets in that buffer.
+-- All groups of a sheet, from the bytes that the fill leaves in that buffer.
 pub groups_read :
     (s b : List ℕ) (count : ℕ) → b ≡ (fill_of s blank).elements → (reading_of s).targets ≡ count
-    → listed (group_in (take (answer_size * count) b)) (length (take (answer_size * count) b) / answer_size) ≡ listed (group_at s) (reading_of s).targets
+    → listed (group_in b) count ≡ listed (group_at s) (reading_of s).targets
 groups_read s b count e c =
     let n = (reading_of s).targets in
     let rest = drop (answer_size * n) blank in
-    let long = answers_length s n in
-    let front : take (answer_size * count) b ≡ answers s n =
-    ap (λ k. take (answer_size * k) b) (sym c)
-    ∙ ap (take (answer_size * n)) (e ∙ sym (ap (λ (f : Lent ℕ). f.elements) (filled s)))
-    ∙ ap (λ k. take k (answers s n ++ rest)) (sym long)
-    ∙ take-append_seam (answers s n) rest in
-    let all : length (answers s n) / answer_size ≡ n = omega (arith, long) in
-    rw (front, all)
-    (listed_same (group_in (answers s n)) (group_at s) n (λ i h. ap (λ b. group_in b i) (sym (append-nil (answers s n))) ∙ group_read s [] n i h))
+    rw (← c, e ∙ sym (ap (λ (f : Lent ℕ). f.elements) (filled s)))
+    (listed_same (group_in (answers s n ++ rest)) (group_at s) n (group_read s rest n))

@@ -1,17 +1,16 @@
--- Groups one after the other: in a list, in a list that three zeros fill up, and as floats in a lent slice.
+-- Groups one after the other: in a list, in an array that is three zeros at first, and as floats in a lent slice.
 -- By the laws of append and of writes in a row. Assumes nothing.
 use mathlib.Core.Path.{◌≡◌, refl, ap, ◌∙◌}
 use mathlib.Core.List.{List, [], ◌∷◌, ◌++◌}
 use Prim.Native.Nat.{ℕ, zero, suc, ◌+◌, ◌-◌, ◌*◌, ◌≤◌, ◌<◌}
 use native.Mathlib.Numerals.{add-one}
 use native.Mathlib.Omega.{arith}
-use Rattle.std.proofs.Common.{length-take-le}
-use Rattle.std.proofs.Math.Seq.{take-suc}
-use lib.ListN.{length, take, drop, get_or, replicate, length-append, length-replicate, get_or-append}
+use Rattle.std.proofs.lemmas.List.{drop-replicate}
+use lib.ListN.{length, drop, set, get_or, replicate, length-append, length-replicate, get_or-append}
 use lib.Ieee.{Float}
 use Rattle.sheet.specs.Layout.{most_targets}
 use Rattle.sheet.specs.Private.{pasted}
-use Rattle.sheet.proofs.Pasting.{join}
+use Rattle.sheet.proofs.Pasting.{join, store_after}
 use Rattle.drawing.specs.declared.figures.Group.{Group}
 use Rattle.drawing.specs.Figures.{three_zeros}
 use Rattle.drawing.specs.Groups.{listed, padded}
@@ -32,11 +31,29 @@ unfolding listed
 listed_same f g zero same = refl
 listed_same f g (suc n) same = rw (listed_same f g n (λ i h. same i (omega arith)), same n (omega arith))
 
--- ---- with three zeros behind them
+-- ---- in an array
 padded_length : (group : ℕ → Group) (n : ℕ) → n ≤ most_targets → length (padded (listed group n)) ≡ most_targets
 padded_length group n few =
     let past = most_targets - length (listed group n) in
     length-append (listed group n) (replicate past three_zeros) ∙ omega (arith, listed_length group n, length-replicate past three_zeros)
+
+pub one_stored :
+    (group : ℕ → Group) (d e : List Group) (i : ℕ) (g : Group) → i < length d → e ≡ pasted d 0 (listed group i) → g ≡ group i
+    → set e i g ≡ pasted d 0 (listed group (i + 1))
+one_stored group d e i g h p q =
+    let at : i ≡ 0 + length (listed group i) = omega (arith, listed_length group i) in
+    let after = store_after d 0 (listed group i) g (omega (arith, listed_length group i)) in
+    ap (λ (x : List Group). set x i g) p
+    ∙ ap (λ (k : ℕ). set (pasted d 0 (listed group i)) k g) at
+    ∙ after
+    ∙ rw (q, listed_more group i)
+
+pub all_stored : (gs : List Group) → pasted (replicate most_targets three_zeros) 0 gs ≡ padded gs
+unfolding pasted
+all_stored gs =
+    let at : 0 + length gs ≡ length gs = omega arith in
+    ap (λ (k : ℕ). gs ++ drop k (replicate most_targets three_zeros)) at
+    ∙ ap (λ (rest : List Group). gs ++ rest) (drop-replicate (length gs) most_targets three_zeros)
 
 -- ---- in a lent slice
 laid_out_append : (gs hs : List Group) → laid_out (gs ++ hs) ≡ laid_out gs ++ laid_out hs
@@ -53,17 +70,14 @@ listed_laid_out : (group : ℕ → Group) (n : ℕ) → length (laid_out (listed
 listed_laid_out group n = omega (arith, laid_out_length (listed group n), listed_length group n)
 
 pub one_laid_out :
-    (gs : List Group) (d e f : List Float) (i : ℕ) (other : Group) → i < length gs → group_size * length gs ≤ length d → e ≡ pasted d 0 (laid_out (take i gs))
-    → f ≡ pasted e (group_size * i) (floats (get_or gs i other)) → f ≡ pasted d 0 (laid_out (take (i + 1) gs))
+    (group : ℕ → Group) (d e f : List Float) (i : ℕ) (g : Group) → group_size * (i + 1) ≤ length d → e ≡ pasted d 0 (laid_out (listed group i))
+    → g ≡ group i → f ≡ pasted e (group_size * i) (floats g) → f ≡ pasted d 0 (laid_out (listed group (i + 1)))
 unfolding laid_out
-one_laid_out gs d e f i other h room p r =
-    let g = get_or gs i other in
-    let before = laid_out (take i gs) in
-    let long : length before ≡ group_size * i = omega (arith, laid_out_length (take i gs), length-take-le i gs (omega (arith, h))) in
-    let at : group_size * i ≡ 0 + length before = omega (arith, long) in
-    let more : laid_out (take (i + 1) gs) ≡ before ++ floats g =
-    ap (λ n. laid_out (take n gs)) (add-one i) ∙ ap laid_out (take-suc gs i other h) ∙ laid_out_append (take i gs) (g ∷ []) in
-    r ∙ rw (p, at, more) (join d 0 before (floats g) (omega (arith, long, h, room)))
+one_laid_out group d e f i g h p q r =
+    let before = laid_out (listed group i) in
+    let at : group_size * i ≡ 0 + length before = omega (arith, listed_laid_out group i) in
+    let more : laid_out (listed group (i + 1)) ≡ before ++ floats (group i) = ap laid_out (listed_more group i) ∙ laid_out_append (listed group i) (group i ∷ []) in
+    r ∙ rw (p, q, at, more) (join d 0 before (floats (group i)) (omega (arith, listed_laid_out group i)))
 
 pub all_laid_out : (group : ℕ → Group) (d : List Float) (n : ℕ) → pasted d 0 (laid_out (listed group n)) ≡ laid_out (listed group n) ++ drop (group_size * n) d
 unfolding pasted

@@ -1,12 +1,12 @@
 -- Request 4: the groups of a sheet, by value.
 use Rattle.std.specs.Prelude.{ℕ, zero, suc, ◌-◌, List, [], ◌∷◌, ◌++◌, length, replicate, Ok, Err}
 use Rattle.std.specs.declared.result.Result.{Result}
-use Rattle.arrayvec.specs.ArrayVec.{ArrayVec, array_vec_len}
 use Rattle.sheet.specs.Layout.{most_targets}
 use Rattle.sheet.specs.declared.reading.Fault.{Fault}
 use Rattle.sheet.specs.Reading.{number_of, reading_of}
 use Rattle.sheet.specs.Target.{shown_of}
 use Rattle.drawing.specs.declared.figures.Group.{Group}
+use Rattle.drawing.specs.declared.groups.Groups as value
 use Rattle.drawing.specs.Figures.{ends, three_zeros, group_of}
 
 -- The number of the sheet's refusal, or 0; how many targets it has; and the group of each, in their order, with three zeros past
@@ -40,6 +40,6 @@ groups_of s =
     }
 
 -- This paper's number, count and groups for each case of the answer.
-abbrev pub groups_shown : Result (ArrayVec Group) Fault → Groups
-groups_shown (Ok gs) = record { number = 0; count = array_vec_len gs; groups = padded gs.items }
+abbrev pub groups_shown : Result value.Groups Fault → Groups
+groups_shown (Ok gs) = record { number = 0; count = gs.count; groups = gs.groups }
 groups_shown (Err why) = record { number = number_of why; count = 0; groups = padded [] }

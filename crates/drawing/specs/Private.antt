@@ -1,15 +1,10 @@
 -- Vocabulary of private functions' contracts. No public contract uses it.
-use Rattle.std.specs.Prelude.{◌≡◌, ℕ, ◌+◌, ◌*◌, List, Ok, Err}
-use Rattle.std.specs.declared.result.Result.{Result}
-use Rattle.arrayvec.specs.ArrayVec.{ArrayVec}
+use Rattle.std.specs.Prelude.{ℕ, ◌+◌, ◌*◌, List}
 use Rattle.chain.specs.Flux.{Shown}
-use Rattle.sheet.specs.declared.reading.Fault.{Fault}
 use Rattle.sheet.specs.Layout.{answer_size}
-use Rattle.sheet.specs.Reading.{refused, number_of, reading_of}
 use Rattle.sheet.specs.Bytes.{one, four}
 use Rattle.drawing.specs.declared.figures.Group.{Group}
 use Rattle.drawing.specs.Figures.{ends, group_of}
-use Rattle.drawing.specs.Groups.{group_at, listed}
 
 -- What the ten bytes of an answer say, from `at` on: state, low, high and note.
 unfoldable pub shown_in : List ℕ → ℕ → Shown
@@ -19,8 +14,3 @@ shown_in answers at =
 -- The group of answer i.
 unfoldable pub group_in : List ℕ → ℕ → Group
 group_in answers i = group_of (ends (shown_in answers (answer_size * i)))
-
--- The groups of a sheet that is read, or why it is refused.
-abbrev pub GroupsOf : Result (ArrayVec Group) Fault → List ℕ → Type 0
-GroupsOf (Ok gs) s = ((reading_of s).state ≡ 0) × (gs.items ≡ listed (group_at s) (reading_of s).targets)
-GroupsOf (Err why) s = reading_of s ≡ refused (number_of why)

@@ -1,20 +1,15 @@
 // The answers that the fill writes for a sheet, ten bytes for each target, and the group of each.
-ghost use Rattle.std.specs.Prelude.{◌≡◌, ◌+◌, ◌*◌, ◌/◌, ◌≤◌, length};
+ghost use Rattle.std.specs.Prelude.{◌≡◌, ◌*◌, ◌≤◌, ◌<◌, length};
 ghost use Rattle.sheet.specs.Layout.{answer_size, most_targets};
 ghost use Rattle.drawing.specs.Figures.{ends};
-ghost use Rattle.drawing.specs.Groups.{listed};
-ghost use Rattle.drawing.specs.Private.{shown_in, group_in, GroupsOf};
+ghost use Rattle.drawing.specs.Private.{shown_in, group_in};
 
-use super::figures::{Ends, group_of};
-use super::groups::Groups;
-use arrayvec::ArrayVec;
-use sheet::fill::fill;
-use sheet::reading::{Fault, read};
+use super::figures::{Ends, Group, group_of};
 
 const ANSWER_SIZE: usize = 10;
 
 // Room for the answers of the most targets, 512.
-const ROOM: usize = ANSWER_SIZE * 512;
+pub(crate) const ROOM: usize = ANSWER_SIZE * 512;
 
 // The ends of an answer: its low and high, or its state, the number of the refusal.
 fn ends_in(answer: &[u8]) -> Ends
@@ -30,24 +25,11 @@ fn ends_in(answer: &[u8]) -> Ends
     Ends::Answered(low as f64, high as f64)
 }
 
-// The groups of some answers, in their order.
-fn groups_in(answers: &[u8]) -> Groups
-    requires { length answers.now ≤ answer_size * most_targets }
-    ensures { result.items ≡ listed (group_in answers.now) (length answers.now / answer_size) }
+// The group of target i.
+pub(crate) fn group_in(answers: &[u8], i: usize) -> Group
+    requires { (i < most_targets) × (answer_size * most_targets ≤ length answers.now) }
+    ensures { result ≡ group_in answers.now i }
 {
-    let mut groups = ArrayVec::new();
-    for answer in answers.chunks_exact(ANSWER_SIZE) {
-        groups.push(group_of(ends_in(answer)));
-    }
-    groups
-}
-
-// The groups of a sheet, or its fault. What reading accepts is filled: there is room for the most targets.
-pub(crate) fn groups_read(sheet: &[u8]) -> Result<Groups, Fault>
-    ensures { GroupsOf result sheet.now }
-{
-    let targets = read(sheet)?.targets;
-    let mut answers = [0u8; ROOM];
-    let _ = fill(sheet, &mut answers);
-    Ok(groups_in(&answers[..ANSWER_SIZE * targets]))
+    let at = ANSWER_SIZE * i;
+    group_of(ends_in(&answers[at..at + ANSWER_SIZE]))
 }

@@ -24,8 +24,8 @@ fn print_groups(rt: &impl Print, sheet: &[u8]) -> io::Result<()> {
         Ok(groups) => groups,
         Err(why) => return println!(rt; "sheet {}", u8::from(why)),
     };
-    println!(rt; "groups {}", groups.len())?;
-    for g in groups.as_slice() {
+    println!(rt; "groups {}", groups.count)?;
+    for g in &groups.groups[..groups.count] {
         print_group(rt, *g)?;
     }
     Ok(())
