@@ -16,7 +16,7 @@ use Rattle.register.specs.declared.sums.Totals.{Totals}
 use Rattle.register.specs.Places.{no_pools}
 use Rattle.register.specs.Sums.{sums_of}
 use Rattle.register.specs.Calls.{Shown, state_of, shown}
-use Rattle.arrayvec.specs.ArrayVec.{ArrayVec}
+use Rattle.which.specs.declared.which_pools.FewestPools.{FewestPools as PoolsGiven}
 use Rattle.which.specs.declared.which_pools.NotOver.{NotOver}
 use Rattle.which.specs.WhichPools as which
 use Rattle.which.specs.WhichPools.{FewestPools, which_of}
@@ -26,7 +26,7 @@ use Rattle.history.specs.OrderClaims.{set_after, SameSetAndSums, SamePoolsAndSum
 use Rattle.history.specs.WhichClaims.{Burning, nth, Explains, GoesBefore, listed}
 use Rattle.history.proofs.Claims.{claims}
 use Rattle.history.proofs.OrderClaims.{order_claims}
-use Rattle.history.proofs.WhichClaims.{listed_is, which_claims}
+use Rattle.history.proofs.WhichClaims.{which_claims}
 
 -- r is what `empty` returns
 pub returned_empty : (r : Register) → r ≡ no_pools → r ≡ after []
@@ -113,7 +113,7 @@ module _ (calls : List Call) (r : Register) (reached : r ≡ after calls) where
 
 -- ---- which pools put it over
 -- p is what `which_pools` returns, and w what it shows
-module _ (r : Register) (limit : ℕ) (p : Result (ArrayVec ℕ) NotOver) (is : which.shown p ≡ which_of r limit) where
+module _ (r : Register) (limit : ℕ) (p : Result PoolsGiven NotOver) (is : which.shown p ≡ which_of r limit) where
   abbrev pub w : FewestPools
   w = which.shown p
 
@@ -166,9 +166,8 @@ module _ (r : Register) (limit : ℕ) (p : Result (ArrayVec ℕ) NotOver) (is : 
         (sym after_calls) (which_claims.left_out calls limit number b)
 
 -- What two answers show is the same only where they are the same.
-shows_itself : (p q : Result (ArrayVec ℕ) NotOver) → which.shown p ≡ which.shown q → p ≡ q
-shows_itself (Ok p) (Ok q) e =
-    ap (λ ns. Ok (record { items = ns })) (sym (listed_is 0 p.items) ∙ ap listed e ∙ listed_is 0 q.items)
+shows_itself : (p q : Result PoolsGiven NotOver) → which.shown p ≡ which.shown q → p ≡ q
+shows_itself (Ok p) (Ok q) e = ap (λ (w : FewestPools). Ok (record { count = w.count; numbers = w.numbers })) e
 shows_itself (Ok p) (Err _) e = absurd (omega (arith, ap (λ (w : FewestPools). w.state) e))
 shows_itself (Err _) (Ok q) e = absurd (omega (arith, ap (λ (w : FewestPools). w.state) e))
 shows_itself (Err _) (Err _) e = refl
@@ -176,7 +175,7 @@ shows_itself (Err _) (Err _) e = refl
 -- p and q are what `which_pools` returns of two registers in which the same pools burn
 pub returned_same_answer :
     (these those : List Call) → ((number : ℕ) → set_after these number ≡ set_after those number) → (r s : Register) → r ≡ after these → s ≡ after those
-    → (limit : ℕ) (p q : Result (ArrayVec ℕ) NotOver) → which.shown p ≡ which_of r limit → which.shown q ≡ which_of s limit → p ≡ q
+    → (limit : ℕ) (p q : Result PoolsGiven NotOver) → which.shown p ≡ which_of r limit → which.shown q ≡ which_of s limit → p ≡ q
 returned_same_answer these those same r s reached reached_too limit p q is is_too =
     shows_itself p q
     (is ∙ ap (λ R. which_of R limit) reached ∙ which_claims.same_answer these those limit same ∙ sym (is_too ∙ ap (λ R. which_of R limit) reached_too))

@@ -1,5 +1,4 @@
 // What a line is answered, as it is printed: the state, which is 0 or the number of the refusal, and the figures.
-use arrayvec::ArrayVec;
 use chain::enquiry::{Outside, Printed, Turned};
 use pairs::answer::{Pair, Refusal};
 use planning::free_place::{NoPlace, Place};
@@ -7,7 +6,7 @@ use planning::stand_off::{NoStandOff, PairAt};
 use register::calls::CallRefusal;
 use register::sums::Totals;
 use std::fmt;
-use which::which_pools::NotOver;
+use which::which_pools::{FewestPools, NotOver};
 
 #[derive(Drop)]
 pub(crate) enum Reply {
@@ -18,7 +17,7 @@ pub(crate) enum Reply {
     FreePlace(Result<Place, NoPlace>),
     // a call on the register, and what the register shows after it, refused or not
     Register(Result<(), CallRefusal>, Totals),
-    Which(Result<ArrayVec<u8, 32>, NotOver>),
+    Which(Result<FewestPools, NotOver>),
 }
 
 impl fmt::Display for Reply {
@@ -42,8 +41,8 @@ impl fmt::Display for Reply {
                 write_line(f, state, &[t.burning as u64, t.lows, t.highs])
             }
             Reply::Which(Ok(pools)) => {
-                write!(f, "0 {}", pools.len())?;
-                for n in pools {
+                write!(f, "0 {}", pools.count)?;
+                for n in pools.numbers.iter().take(pools.count as usize) {
                     write!(f, " {n}")?;
                 }
                 Ok(())

@@ -1,8 +1,7 @@
 // Which pools put it over: 32 pools burn, and one limit after another is asked.
 use crate::register_calls::enquiry_of;
-use arrayvec::ArrayVec;
 use register::places::Register;
-use which::which_pools::{NotOver, which_pools};
+use which::which_pools::{FewestPools, NotOver, which_pools};
 
 // The pools from number 1 to 32 are lit.
 fn alight() -> Register {
@@ -14,10 +13,10 @@ fn alight() -> Register {
 }
 
 // The check sum with how many pools they are, and each number as often as there are places from its own on, of 32; or with the refusal's.
-fn with_pools(total: u64, answer: Result<ArrayVec<u8, 32>, NotOver>) -> u64 {
+fn with_pools(total: u64, answer: Result<FewestPools, NotOver>) -> u64 {
     match answer {
-        Ok(pools) => pools.iter().zip((1..=32u64).rev()).fold(
-            total.wrapping_add(pools.len() as u64),
+        Ok(pools) => pools.numbers.iter().zip((1..=32u64).rev()).fold(
+            total.wrapping_add(pools.count as u64),
             |sum, (number, places)| sum.wrapping_add(places.wrapping_mul(*number as u64)),
         ),
         Err(why) => total.wrapping_add(u8::from(why) as u64),
