@@ -1,11 +1,12 @@
 -- What one byte more does to the lines, by its kind, and so to what the sheets have been given to. Assumes nothing.
 use Rattle.std.proofs.Common.{◌≡◌, ℕ, ◌+◌, ◌*◌, ◌<◌, ◌≤◌, List, [], ◌∷◌, ◌++◌, take, length, length-append, Ok, Err, OnOk, OnErr, IsOk, None, Some, refl, sym, ap, ◌∙◌, subst, arith, take_all}
-use Rattle.std.proofs.lemmas.Bool.{lt-ltb, le-ltb, eq-eqb, ne_eqb}
+use Rattle.std.proofs.lemmas.Bool.{lt-ltb, le-ltb, ne_eqb}
 use Rattle.std.proofs.lemmas.Fn.{FoldsTo-push}
 use Rattle.std.proofs.lemmas.List.{take-append-le}
 use Rattle.arrayvec.specs.ArrayVec.{ArrayVec}
 use Rattle.std.specs.Char.{digit_value}
 use Rattle.std.specs.Fn.{CalledAt}
+use Rattle.std.specs.declared.option.Option.{Option}
 use Rattle.std.specs.declared.result.Result.{Result}
 use denote.Param.Members.{Mut}
 use denote.Ref.{Bor}
@@ -14,11 +15,11 @@ use Rattle.input.specs.Sheets.{room, Lines, with_digit, with_byte}
 use Rattle.input.specs.Private.{Given}
 
 -- ---- the lines after a line feed, after a digit and after any other byte
-after_feed : (l : Lines) (b : ℕ) → b ≡ 10 → with_byte l b ≡ record { ended = l.ended ++ l.sheet ∷ []; sheet = []; half = None }
+after_feed : (l : Lines) → with_byte l 10 ≡ record { ended = l.ended ++ l.sheet ∷ []; sheet = []; half = None }
 unfolding with_byte
-after_feed l b e = rw (eq-eqb b 10 e)
+after_feed l = refl
 
-after_other : (l : Lines) (b : ℕ) → (b ≡ 10 → ⊥) → 16 ≤ digit_value b → with_byte l b ≡ l
+pub after_other : (l : Lines) (b : ℕ) → (b ≡ 10 → ⊥) → 16 ≤ digit_value b → with_byte l b ≡ l
 unfolding with_byte
 after_other l b e f = rw (ne_eqb b 10 e, le-ltb (digit_value b) 16 f)
 
@@ -26,32 +27,25 @@ after_digit : (l : Lines) (b : ℕ) → (b ≡ 10 → ⊥) → digit_value b < 1
 unfolding with_byte
 after_digit l b e f = rw (ne_eqb b 10 e, lt-ltb (digit_value b) 16 f)
 
+pub after_first : (l : Lines) (b digit : ℕ) → (b ≡ 10 → ⊥) → (digit_value b < 16) × (digit ≡ digit_value b) → l.half ≡ None
+    → with_byte l b ≡ record { ended = l.ended; sheet = l.sheet; half = Some digit }
+after_first l b digit e h none = rw (after_digit l b e h.0, none, h.1) refl
+
+pub after_second : (l : Lines) (b first digit : ℕ) (sheet : List ℕ) (half : Option ℕ) → (b ≡ 10 → ⊥) → (digit_value b < 16) × (digit ≡ digit_value b)
+    → l.half ≡ Some first → sheet ≡ take room (l.sheet ++ (16 * first + digit) ∷ []) → half ≡ None → with_byte l b ≡ record { ended = l.ended; sheet = sheet; half = half }
+after_second l b first digit sheet half e h some pushed none = rw (after_digit l b e h.0, some, pushed, none, h.1) refl
+
 -- ---- and what the sheets have been given to
-module _ {F E : Type 0} (g : Mut F (Bor (List ℕ) × Unit {0}) (Result (Unit {0}) E)) (f : F) (l : Lines) (b : ℕ) where
-  pub feed_given : (line new : Line) (each each' : F) → b ≡ 10 → Given g f l line each → CalledAt g each line.sheet.items (Ok tt) each'
-      → new.sheet.items ≡ [] → new.half ≡ None → Given g f (with_byte l b) new each'
-  feed_given line new each each' e given call sheet half =
-      rw (after_feed l b e)
+module _ {F E : Type 0} (g : Mut F (Bor (List ℕ) × Unit {0}) (Result (Unit {0}) E)) (f : F) (l : Lines) where
+  pub feed_given : (line new : Line) (each each' : F) → Given g f l line each → CalledAt g each line.sheet.items (Ok tt) each' → new.sheet.items ≡ [] → new.half ≡ None
+      → Given g f (with_byte l 10) new each'
+  feed_given line new each each' given call sheet half =
+      rw (after_feed l)
       (record {
         calls = FoldsTo-push _ f l.ended each l.sheet each' given.calls (subst (λ s. CalledAt g each s (Ok tt) each') given.sheet call);
         sheet = sheet;
         half = half;
       })
-
-  pub other_given : (line : Line) (each : F) → (b ≡ 10 → ⊥) → 16 ≤ digit_value b → Given g f l line each → Given g f (with_byte l b) line each
-  other_given line each e h given = rw (after_other l b e h) given
-
-  pub first_given : (line new : Line) (each : F) (digit : ℕ) → (b ≡ 10 → ⊥) → (digit_value b < 16) × (digit ≡ digit_value b) → Given g f l line each
-      → line.half ≡ None → new.sheet.items ≡ line.sheet.items → new.half ≡ Some digit → Given g f (with_byte l b) new each
-  first_given line new each digit e h given none sheet half =
-      rw (after_digit l b e h.0, sym given.half ∙ none) (record { calls = given.calls; sheet = sheet ∙ given.sheet; half = half ∙ ap Some h.1 })
-
-  pub second_given : (line new : Line) (each : F) (first digit : ℕ) → (b ≡ 10 → ⊥) → (digit_value b < 16) × (digit ≡ digit_value b) → Given g f l line each
-      → line.half ≡ Some first → new.sheet.items ≡ take room (line.sheet.items ++ (16 * first + digit) ∷ []) → new.half ≡ None
-      → Given g f (with_byte l b) new each
-  second_given line new each first digit e h given some sheet half =
-      rw (after_digit l b e h.0, sym given.half ∙ some, sym h.1)
-      (record { calls = given.calls; sheet = sheet ∙ ap (λ s. take room (s ++ (16 * first + digit) ∷ [])) given.sheet; half = half })
 
 -- A byte is pushed where there is room, and dropped where there is none.
 pub pushed : {E : Type 0} (r : Result (Unit {0}) E) (old new : ArrayVec ℕ) (b : ℕ) → (IsOk r → length old.items < room)

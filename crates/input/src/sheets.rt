@@ -1,5 +1,5 @@
 // Sheets in hexadecimal, one to a line.
-ghost use Rattle.std.specs.Prelude.{◌≡◌, ◌-◌, ◌^◌, ◌<◌, ◌≤◌, length, [], None, Ok, OnOk, List, ℕ};
+ghost use Rattle.std.specs.Prelude.{◌≡◌, ◌≢◌, ◌-◌, ◌^◌, ◌<◌, ◌≤◌, length, [], None, Ok, OnOk, List, ℕ};
 ghost use Rattle.std.specs.Option.{ForSome};
 ghost use Rattle.std.specs.List.{FoldsTo, fold};
 ghost use Rattle.std.specs.Fn.{CalledAt};
@@ -21,7 +21,7 @@ struct Line {
 }
 
 impl Line {
-    ghost use Rattle.input.specs.Private.{Given};
+    ghost use Rattle.input.specs.Private.{Given, with_line};
 
     fn empty() -> Line
         ensures { (result.sheet.items ≡ []) × (result.half ≡ None) }
@@ -32,25 +32,27 @@ impl Line {
         }
     }
 
-    // One byte more: a line feed ends a sheet, two digits are a byte of it, and what is no digit is passed over. The closure is of the
-    // caller's type, so each function that takes it asks that it may be called.
-    fn push_byte<F: FnMut(&[u8]) -> io::Result<()>>(
-        &mut self,
-        b: u8,
-        each: &mut F,
-    ) -> io::Result<()>
+    // A line feed: the sheet ends, and a single digit is dropped. The closure is of the caller's type, so each function that takes it
+    // asks that it may be called. It stays a call of its own: a large closure in the loop over the bytes slows each byte.
+    #[inline(never)]
+    fn end_sheet<F: FnMut(&[u8]) -> io::Result<()>>(&mut self, each: &mut F) -> io::Result<()>
         requires { F.IsAlwaysCallable each.old }
         ensures callable { F.IsAlwaysCallable each.new }
-        ensures given { OnOk result ((f : F) (l : Lines) → Given F.FnMut f l self.old each.old → Given F.FnMut f (with_byte l b) self.new each.new) }
+        ensures given { OnOk result ((f : F) (l : Lines) → Given F.FnMut f l self.old each.old → Given F.FnMut f (with_byte l 10) self.new each.new) }
     {
-        if b == b'\n' {
-            each(self.sheet.as_slice())?;
-            self.sheet.clear();
-            self.half = None;
-            return Ok(());
-        }
+        each(self.sheet.as_slice())?;
+        self.sheet.clear();
+        self.half = None;
+        Ok(())
+    }
+
+    // Any other byte: two digits are a byte of the sheet, and what is no digit is passed over.
+    fn push_byte(&mut self, b: u8)
+        requires { b ≢ 10 }
+        ensures { (ended : List (List ℕ)) → with_line ended self.new ≡ with_byte (with_line ended self.old) b }
+    {
         let Some(digit) = (b as char).to_digit(16) else {
-            return Ok(());
+            return;
         };
         let digit = digit as u8;
         match self.half.take() {
@@ -60,7 +62,6 @@ impl Line {
                 let _ = self.sheet.try_push(16 * first + digit);
             }
         }
-        Ok(())
     }
 
     // The bytes of one read, in their order.
@@ -74,7 +75,11 @@ impl Line {
         ensures given { OnOk result ((f : F) (l : Lines) → Given F.FnMut f l self.old each.old → Given F.FnMut f (fold with_byte l piece.now) self.new each.new) }
     {
         for b in piece {
-            self.push_byte(*b, each)?;
+            if *b == b'\n' {
+                self.end_sheet(each)?;
+            } else {
+                self.push_byte(*b);
+            }
         }
         Ok(())
     }
