@@ -2,6 +2,7 @@
 -- By induction over the count. Assumes nothing.
 use mathlib.Core.Path.{◌≡◌, refl, sym, ap, ◌∙◌}
 use mathlib.Core.Bool.{Bool, true, false}
+use mathlib.Core.Logic.{⊎_elim}
 use mathlib.Core.List.{List, [], ◌∷◌, ◌++◌}
 use Prim.Native.Nat.{ℕ, zero, suc, ◌+◌, ◌/◌, ◌%◌, ◌^◌, ◌≤◌, ◌<◌}
 use native.Mathlib.Omega.{arith}
@@ -9,7 +10,8 @@ use lib.ListN.{length, length-append}
 use lib.Dec.{ltb}
 use borrow.Author.Tests.{lt-ltb, le-ltb, ltb-false}
 use Rattle.std.specs.Fmt as std
-use Rattle.std.proofs.lemmas.Fmt.{decimal_by_steps, length-decimal-le}
+use Rattle.std.proofs.lemmas.Bool.{cases_lt}
+use Rattle.std.proofs.lemmas.Fmt.{decimal_by_steps}
 use Rattle.sheet.specs.Report.{digits, decimal, field}
 
 -- What `digits` chooses between.
@@ -40,6 +42,9 @@ last_digit n h =
     ap (λ (b : Bool). pick b ((48 + n) ∷ []) (digits n (n / 10) ++ ((48 + n % 10) ∷ []))) (le-ltb n 10 h)
     ∙ ap (λ (x : List ℕ). x ++ ((48 + n % 10) ∷ [])) (enough n (suc (n / 10)) (n / 10) (omega arith) (omega arith))
 
+pub digits_more : (n : ℕ) → 10 ≤ n → length (decimal n) ≡ length (decimal (n / 10)) + 1
+digits_more n h = ap length (last_digit n h) ∙ length-append (decimal (n / 10)) ((48 + n % 10) ∷ [])
+
 pub field_length : (n end : ℕ) → length (field n end) ≡ length (decimal n) + 1
 unfolding field
 field_length n end = length-append (decimal n) (end ∷ [])
@@ -50,5 +55,7 @@ decimal_is =
     decimal_by_steps (λ n ds. ds ≡ decimal n) (λ n h. sym (one_digit n h)) (λ n ds h e. ap (λ (x : List ℕ). x ++ ((48 + n % 10) ∷ [])) e ∙ sym (last_digit n h))
 
 -- How many digits there are.
-pub few_digits : (k n : ℕ) → 0 < k → n < 10 ^ k → n < 2 ^ 64 → length (decimal n) ≤ k
-few_digits k n some h g = rw (← decimal_is n g) (length-decimal-le k n some h g)
+pub few_digits : (m n : ℕ) → n < 10 ^ suc m → length (decimal n) ≤ suc m
+few_digits zero n h = omega (arith, ap length (one_digit n (omega arith)))
+few_digits (suc m) n h =
+    ⊎_elim (λ one. omega (arith, ap length (one_digit n one))) (λ more. omega (arith, digits_more n more, few_digits m (n / 10) (omega arith))) (cases_lt n 10)

@@ -30,6 +30,11 @@ module _ {A : Type 0} where
   overwritten d vs copied at k e g =
       rw (e, g) (ap (λ (x : List A). take at d ++ (vs ++ x)) (drop-drop (length vs) at d))
 
+  -- What stands before a write and from it on.
+  pub rewritten : (d e vs : List A) (at : ℕ) → take at e ≡ take at d → drop at e ≡ vs ++ drop (at + length vs) d → e ≡ pasted d at vs
+  unfolding pasted
+  rewritten d e vs at h g = sym (take-append-drop at e) ∙ (λ i. h i ++ g i)
+
   -- Two writes, the second from the end of the first on, are one.
   pub join : (d : List A) (at : ℕ) (vs ws : List A) → at + length vs + length ws ≤ length d → pasted (pasted d at vs) (at + length vs) ws ≡ pasted d at (vs ++ ws)
   unfolding pasted
@@ -64,6 +69,15 @@ pub word_written :
 word_written t w copied e k g h =
     let over = overwritten t.buffer.now w copied t.len k e g in
     record { bytes = over; after = refl; kept = ap length over ∙ length_pasted t.buffer.now t.len w h; same = refl }
+
+-- A word after the text so far, and the byte that ends it.
+pub word_ended :
+    (t : Text) (w e : List ℕ) (end at : ℕ) → e ≡ pasted t.buffer.now t.len w → at ≡ t.len + length w → at < length t.buffer.now
+    → Writes t (w ++ (end ∷ [])) (record { buffer = record t.buffer { now = set e at end }; len = at + 1 })
+word_ended t w e end at g h room =
+    let whole : set e at end ≡ pasted t.buffer.now t.len (w ++ (end ∷ [])) = rw (g, h) (store_after t.buffer.now t.len w end (omega arith)) in
+    let long : length (w ++ (end ∷ [])) ≡ length w + 1 = length-append w (end ∷ []) in
+    record { bytes = whole; after = omega arith; kept = ap length whole ∙ length_pasted t.buffer.now t.len (w ++ (end ∷ [])) (omega arith); same = refl }
 
 -- Text after text.
 pub then : {t u v : Text} {vs ws : List ℕ} → Writes t vs u → Writes u ws v → v.len ≤ length t.buffer.now → Writes t (vs ++ ws) v

@@ -33,11 +33,11 @@ pub record Short (i : ℕ) (a : Shown) : Type 0 where
 pub short : (i : ℕ) (a : Shown) → i < 1000 → a.state < 256 → a.low < 2 ^ 32 → a.high < 2 ^ 32 → a.note < 256 → Short i a
 short i a h s l m n =
     record {
-      index = few_digits 3 i (omega arith) h (omega arith);
-      state = few_digits 3 a.state (omega arith) (omega arith) (omega arith);
-      low = few_digits 10 a.low (omega arith) (omega arith) (omega arith);
-      high = few_digits 10 a.high (omega arith) (omega arith) (omega arith);
-      note = few_digits 3 a.note (omega arith) (omega arith) (omega arith);
+      index = few_digits 2 i h;
+      state = few_digits 2 a.state (omega arith);
+      low = few_digits 9 a.low (omega arith);
+      high = few_digits 9 a.high (omega arith);
+      note = few_digits 2 a.note (omega arith);
     }
 
 pub line_put :
