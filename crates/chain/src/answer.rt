@@ -167,7 +167,7 @@ impl Answer {
 
     // Whether it is the pair [0, 0].
     pub(crate) fn is_zero(self) -> bool
-        ensures { result ≡ true → self ≡ given (ends 0 0) }
+        ensures { (result ≡ true → self ≡ given (ends 0 0)) × (self ≡ given (ends 0 0) → result ≡ true) }
     {
         self.found == Ok(Pair { low: 0, high: 0 })
     }
