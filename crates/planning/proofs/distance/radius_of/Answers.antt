@@ -1,10 +1,9 @@
 -- `radius_of` meets its contract: the pair, up to a whole mm.
 -- Assumes nothing.
-use mathlib.Core.Path.{◌≡◌, ap, ◌∙◌}
+use mathlib.Core.Path.{◌≡◌, ap}
 use Prim.Native.Nat.{◌≤◌}
 use native.Mathlib.Omega.{arith}
 use Rattle.std.proofs.Common.{rules}
-use Rattle.std.specs.Int.{div_ceil}
 use Rattle.std.specs.Prelude.{Result, Ok}
 use Rattle.pairs.specs.declared.answer.Pair.{Pair}
 use Rattle.pairs.specs.declared.answer.Refusal.{Refusal}
@@ -23,4 +22,4 @@ overflow_cast-result c =
 pub returns : goal.returns
 returns c l h =
     let same = unwrapped c.radius_pair.result c.unwrap-radius.ensures c.radius_pair.ensures in
-    c.div_ceil.ensures ∙ ap (λ (p : Pair). div_ceil p.high 1_000_000_000) same ∙ rounded_up c.args.area
+    omega (arith, ap (λ (p : Pair). p.high) same, rounded_up c.args.area)
