@@ -1,4 +1,4 @@
--- What one byte more does to the lines, by its kind, and so to what the sheets have been given to. Assumes nothing.
+-- What one byte more does to the lines, by its kind. Assumes nothing.
 use Rattle.std.proofs.Common.{◌≡◌, ℕ, ◌+◌, ◌*◌, ◌<◌, ◌≤◌, List, [], ◌∷◌, ◌++◌, take, length, length-append, Ok, Err, OnOk, OnErr, IsOk, None, Some, refl, sym, ap, ◌∙◌, subst, arith, take_all}
 use Rattle.std.proofs.lemmas.Bool.{lt-ltb, le-ltb, ne_eqb}
 use Rattle.std.proofs.lemmas.Fn.{FoldsTo-push}
@@ -6,6 +6,7 @@ use Rattle.std.proofs.lemmas.List.{take-append-le}
 use Rattle.arrayvec.specs.ArrayVec.{ArrayVec}
 use Rattle.std.specs.Char.{digit_value}
 use Rattle.std.specs.Fn.{CalledAt}
+use Rattle.std.specs.List.{FoldsTo}
 use Rattle.std.specs.declared.option.Option.{Option}
 use Rattle.std.specs.declared.result.Result.{Result}
 use denote.Param.Members.{Mut}
@@ -15,7 +16,7 @@ use Rattle.input.specs.Sheets.{room, Lines, with_digit, with_byte}
 use Rattle.input.specs.Private.{Given}
 
 -- ---- the lines after a line feed, after a digit and after any other byte
-after_feed : (l : Lines) → with_byte l 10 ≡ record { ended = l.ended ++ l.sheet ∷ []; sheet = []; half = None }
+pub after_feed : (l : Lines) → with_byte l 10 ≡ record { ended = l.ended ++ l.sheet ∷ []; sheet = []; half = None }
 unfolding with_byte
 after_feed l = refl
 
@@ -35,17 +36,10 @@ pub after_second : (l : Lines) (b first digit : ℕ) (sheet : List ℕ) (half : 
     → l.half ≡ Some first → sheet ≡ take room (l.sheet ++ (16 * first + digit) ∷ []) → half ≡ None → with_byte l b ≡ record { ended = l.ended; sheet = sheet; half = half }
 after_second l b first digit sheet half e h some pushed none = rw (after_digit l b e h.0, some, pushed, none, h.1) refl
 
--- ---- and what the sheets have been given to
-module _ {F E : Type 0} (g : Mut F (Bor (List ℕ) × Unit {0}) (Result (Unit {0}) E)) (f : F) (l : Lines) where
-  pub feed_given : (line new : Line) (each each' : F) → Given g f l line each → CalledAt g each line.sheet.items (Ok tt) each' → new.sheet.items ≡ [] → new.half ≡ None
-      → Given g f (with_byte l 10) new each'
-  feed_given line new each each' given call sheet half =
-      rw (after_feed l)
-      (record {
-        calls = FoldsTo-push _ f l.ended each l.sheet each' given.calls (subst (λ s. CalledAt g each s (Ok tt) each') given.sheet call);
-        sheet = sheet;
-        half = half;
-      })
+-- The sheet that a line feed ends is given after those that had ended.
+pub feed_calls : {F E : Type 0} (g : Mut F (Bor (List ℕ) × Unit {0}) (Result (Unit {0}) E)) (f : F) (l : Lines) (line : Line) (each each' : F) → Given g f l line each
+    → CalledAt g each line.sheet.items (Ok tt) each' → FoldsTo (λ p sheet q. CalledAt g p sheet (Ok tt) q) f (l.ended ++ l.sheet ∷ []) each'
+feed_calls g f l line each each' given call = FoldsTo-push _ f l.ended each l.sheet each' given.calls (subst (λ s. CalledAt g each s (Ok tt) each') given.sheet call)
 
 -- A byte is pushed where there is room, and dropped where there is none.
 pub pushed : {E : Type 0} (r : Result (Unit {0}) E) (old new : ArrayVec ℕ) (b : ℕ) → (IsOk r → length old.items < room)
